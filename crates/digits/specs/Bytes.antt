@@ -1,0 +1,33 @@
+-- Buffers: a lent buffer is the list of its bytes, and these few words say what is read from it and written to it.
+use Prim.Native.Nat.{ℕ, zero, suc, _+_, _*_}
+use mathlib.Core.List.{List, [], _∷_, _++_}
+use mathlib.Core.Bool.{Bool, true, _&&_}
+use lib.ListN.{length, take, drop}
+use lib.Dec.{eqb}
+
+-- the n bytes that stand from `at` on
+unfoldable pub part : List ℕ → ℕ → ℕ → List ℕ
+part t at n = take n (drop at t)
+
+-- the buffer with the bytes b written from `at` on, and every other byte as it was
+unfoldable pub put : List ℕ → ℕ → List ℕ → List ℕ
+put t at b = take at t ++ (b ++ drop (at + length b) t)
+
+-- f 0, f 1, .. one after the other, k of them
+unfoldable pub gather : (ℕ → List ℕ) → ℕ → List ℕ
+gather f zero = []
+gather f (suc k) = gather f k ++ f k
+
+-- the buffer with k pieces of w bytes each written from `at` on, the piece numbered c being f c
+unfoldable pub filled : List ℕ → ℕ → ℕ → (ℕ → List ℕ) → ℕ → List ℕ
+filled t at w f k = take at t ++ (gather f k ++ drop (at + w * k) t)
+
+-- the test passes at every number below k
+unfoldable pub allBelow : (ℕ → Bool) → ℕ → Bool
+allBelow f zero = true
+allBelow f (suc k) = allBelow f k && f k
+
+-- every byte is zero
+unfoldable pub allZero : List ℕ → Bool
+allZero [] = true
+allZero (b ∷ s) = eqb b 0 && allZero s

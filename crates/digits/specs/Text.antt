@@ -1,0 +1,75 @@
+-- Texts and numbers in digits, read and written.
+use Prim.Native.Nat.{ℕ, zero, suc, _+_, _*_, _-_, _/_, _%_, _^_, max}
+use Prim.Native.String as S
+use Prim.Native.Char.{code}
+use mathlib.Core.List.{List, [], _∷_, _++_}
+use mathlib.Core.Bool.{Bool, true, false, _&&_, cond}
+use lib.Dec.{leb, ltb, eqb}
+use Rattle.digits.specs.Places.{origin, ahead, cw, ccw}
+
+-- the bytes of a quoted text
+unfoldable pub bytes : S.String → List ℕ
+bytes S.[] = []
+bytes (S._∷_ c s) = code c ∷ bytes s
+
+-- two texts are the same
+unfoldable pub same : List ℕ → List ℕ → Bool
+same [] [] = true
+same [] (b ∷ t) = false
+same (a ∷ s) [] = false
+same (a ∷ s) (b ∷ t) = eqb a b && same s t
+
+-- the byte is one of 0-9
+abbrev pub isDigit : ℕ → Bool
+isDigit b = leb 48 b && leb b 57
+
+-- how many digits stand at the front
+unfoldable pub digitsAtFront : List ℕ → ℕ
+digitsAtFront [] = 0
+digitsAtFront (b ∷ s) = cond (isDigit b) (suc (digitsAtFront s)) 0
+
+-- the number that digits write, after those that wrote n
+unfoldable pub valueFrom : ℕ → List ℕ → ℕ
+valueFrom n [] = n
+valueFrom n (b ∷ s) = valueFrom (10 * n + (b - 48)) s
+
+abbrev pub valueOf : List ℕ → ℕ
+valueOf s = valueFrom 0 s
+
+-- the last k digits of n
+unfoldable pub lastDigits : ℕ → ℕ → List ℕ
+lastDigits zero n = []
+lastDigits (suc k) n = lastDigits k (n / 10) ++ ((48 + n % 10) ∷ [])
+
+-- how many of 10, 100, .. up to 10 to the k are not above n
+unfoldable pub powersUpTo : ℕ → ℕ → ℕ
+powersUpTo zero n = 0
+powersUpTo (suc k) n = powersUpTo k n + cond (leb (10 ^ suc k) n) 1 0
+
+-- how many digits n has: at most ten, which every number here has
+unfoldable pub digitCount : ℕ → ℕ
+digitCount n = suc (powersUpTo 9 n)
+
+-- n in decimal, with at least k digits
+unfoldable pub decimal : ℕ → ℕ → List ℕ
+decimal k n = lastDigits (max k (digitCount n)) n
+
+-- a place's position in decimal: "a sign (+ for 0)" and at least k digits
+unfoldable pub signedDecimal : ℕ → ℕ → List ℕ
+signedDecimal k p =
+    cond (leb origin p) (43 ∷ decimal k (ahead cw origin p)) (45 ∷ decimal k (ahead ccw origin p))
+
+-- "Hex is in capitals": the digit of a number below 16
+unfoldable pub hexDigit : ℕ → ℕ
+hexDigit n = cond (ltb n 10) (48 + n) (55 + n)
+
+-- a byte as two hex digits
+unfoldable pub hexByte : ℕ → List ℕ
+hexByte n = hexDigit (n / 16) ∷ hexDigit (n % 16) ∷ []
+
+-- the number of a hex digit in capitals, and whether a byte is one: "x is one of 0-9, A-F"
+abbrev pub isHex : ℕ → Bool
+isHex b = cond (isDigit b) true (leb 65 b && leb b 70)
+
+unfoldable pub hexValue : ℕ → ℕ
+hexValue b = cond (isDigit b) (b - 48) (b - 55)

@@ -1,0 +1,1 @@
+// Words of bytes, low byte first, and numbers in digits, decimal and hex. What they are is said in specs/.

@@ -1,0 +1,68 @@
+-- Lines and the orders that they are, computed by the definitions. Each list is one statement, and its proof is the
+-- computation.
+use mathlib.Core.Path.{_≡_, refl}
+use mathlib.Core.List.{List, [], _∷_, _++_, map}
+use mathlib.Core.Bool.{Bool, true, false}
+use Prim.Native.Nat.{ℕ}
+use Prim.Native.String as S
+use lib.ListN.{replicate}
+use Rattle.digits.specs.Text.{bytes, same, digitsAtFront, valueFrom, hexValue}
+use Rattle.digits.specs.Places.{cw, ccw}
+use Rattle.line.specs.declared.Four.{Four}
+use Rattle.line.specs.declared.Written.{Written}
+use Rattle.line.specs.declared.Start.the-variants.{Abs, Rel, Scan, Jog}
+use Rattle.line.specs.declared.Setting.the-variants.{Preset, SetCwLimit, SetCcwLimit, Select, SetSpeed, SetSwitches, SetMotor}
+use Rattle.line.specs.declared.Question.the-variants.{AskPosition, AskCwLimit, AskCcwLimit, AskSelected, AskSpeed, AskSwitches, AskMotor, AskStatus}
+use Rattle.line.specs.declared.Order.{Order}
+use Rattle.line.specs.declared.Order.the-variants.{Go, Stop, StopAll, ChangeSpeed, Set, Ask, Local, Remote, AllReply, AskAllReply, AskFlags, AskError, ClearErrors, ClearError}
+use Rattle.line.specs.declared.Parsed.{Parsed}
+use Rattle.line.specs.declared.Parsed.the-variants.{Is, Nothing}
+use Rattle.line.specs.Reading.{readChannel, readNumber, readSigned, readDigit, readQuestion, readFour, readZeroThree, readFields}
+use Rattle.line.specs.Forms.{asRow, forms, firstForm, orderOf}
+
+-- a quoted line as an order
+line : S.String → Parsed
+line s = orderOf (bytes s)
+
+plus : ℕ → Written
+plus n = record { minus = false; digits = n }
+
+minus : ℕ → Written
+minus n = record { minus = true; digits = n }
+
+-- every form once, with the order that it is
+every-form :
+    (map line ("ABSB+5" ∷ "REL0-0000000013" ∷ "SCANP0" ∷ "SCANNF" ∷ "JOGP9" ∷ "JOGNA" ∷ [])
+    ≡ Is (Go 11 (Abs (plus 5))) ∷ Is (Go 0 (Rel (minus 13))) ∷ Is (Go 0 (Scan cw)) ∷ Is (Go 15 (Scan ccw)) ∷ Is (Go 9 (Jog cw)) ∷ Is (Go 10 (Jog ccw)) ∷ [])
+    × (map line ("SSTP3" ∷ "ESTP3" ∷ "ASSTP" ∷ "AESTP" ∷ "SPC0400" ∷ [])
+    ≡ Is (Stop 3 0x40) ∷ Is (Stop 3 0x80) ∷ Is (StopAll 0x40) ∷ Is (StopAll 0x80) ∷ Is (ChangeSpeed 0 400) ∷ [])
+    × (map line ("PS0-2147483648" ∷ "FL0+3" ∷ "BL7-30" ∷ "SPDH1" ∷ "SPDM1" ∷ "SPDL1" ∷ [])
+    ≡ Is (Set 0 (Preset (minus 2147483648))) ∷ Is (Set 0 (SetCwLimit (plus 3))) ∷ Is (Set 7 (SetCcwLimit (minus 30))) ∷ Is (Set 1 (Select 2)) ∷ Is (Set 1 (Select 1)) ∷ Is (Set 1 (Select 0)) ∷ [])
+    × (map line ("SPDH05000000" ∷ "SPDM0800" ∷ "SPDLF1" ∷ "SETLS0D" ∷ "SETLS011110020" ∷ "SETMT01912" ∷ [])
+    ≡ Is (Set 0 (SetSpeed 2 5000000)) ∷ Is (Set 0 (SetSpeed 1 800)) ∷ Is (Set 15 (SetSpeed 0 1)) ∷ Nothing ∷ Is (Set 0 (SetSwitches (record { a = 1; b = 1; c = 1; d = 1 }) (record { a = 0; b = 0; c = 2; d = 0 }))) ∷ Is (Set 0 (SetMotor (record { a = 1; b = 9; c = 1; d = 2 }))) ∷ [])
+    × (map line ("PS?0" ∷ "FL?0" ∷ "BL?0" ∷ "SPD?0" ∷ "SPDH?0" ∷ "SPDM?0" ∷ "SPDL?0" ∷ "SETLS?0" ∷ "SETMT?0" ∷ "STS0?" ∷ [])
+    ≡ map (λ q. Is (Ask 0 q)) (AskPosition ∷ AskCwLimit ∷ AskCcwLimit ∷ AskSelected ∷ AskSpeed 2 ∷ AskSpeed 1 ∷ AskSpeed 0 ∷ AskSwitches ∷ AskMotor ∷ AskStatus ∷ []))
+    × (map line ("LOC" ∷ "REM" ∷ "ALL_REP EN" ∷ "ALL_REP DS" ∷ "ALL_REP?" ∷ "ERRF?" ∷ "ERR?" ∷ "ERRC" ∷ "ERRC9" ∷ [])
+    ≡ Is Local ∷ Is Remote ∷ Is (AllReply true) ∷ Is (AllReply false) ∷ Is AskAllReply ∷ Is AskFlags ∷ Is AskError ∷ Is ClearErrors ∷ Is (ClearError 9) ∷ [])
+unfolding line plus minus orderOf firstForm forms asRow readFields readChannel readNumber readSigned readDigit readQuestion readFour readZeroThree bytes same digitsAtFront valueFrom hexValue
+every-form = (refl, refl, refl, refl, refl, refl)
+
+-- lines that have no form: empty, lower case, a byte too few or too many, a channel over F, a sign missing or doubled, no
+-- digit, eleven digits, a second channel, another digit than the fixed 0 of SETLS, a CR at the end
+no-form :
+    map line
+    ("" ∷ "rem" ∷ "RE" ∷ "REM " ∷ " REM" ∷ "REM\r" ∷ "ABSG+5" ∷ "ABSa+5" ∷ "ABS0" ∷ "ABS05" ∷ "ABS0+" ∷ "ABS0+-5" ∷ "ABS0+5 "
+    ∷ "ABSBB+5" ∷ "PS0+12345678901" ∷ "SPC012345678901" ∷ "SPC0" ∷ "SPDM0800X" ∷ "SPDM" ∷ "SPDX0" ∷ "SETLS011111000" ∷ "SETLS01111000"
+    ∷ "SETLS0111100000" ∷ "SETMT0110" ∷ "SETMT011000" ∷ "STS0" ∷ "STS?0" ∷ "PS?" ∷ "PS?0?" ∷ "ALL_REP  EN" ∷ "ALL_REP" ∷ "ERRC00"
+    ∷ "ERRCA" ∷ "ERRF" ∷ "SSTP" ∷ "ASSTP0" ∷ "C0RLN01+5/+0" ∷ [])
+    ≡ replicate 37 Nothing
+unfolding line orderOf firstForm forms asRow readFields readChannel readNumber readSigned readDigit readQuestion readFour readZeroThree bytes same digitsAtFront valueFrom hexValue
+no-form = refl
+
+-- bytes over 127, and lines of 81 bytes; no form is longer than fifteen bytes, so that the limit of 80 refuses no line that
+-- has one
+long-lines :
+    (orderOf (0xc1 ∷ 0xff ∷ []) ≡ Nothing) × (orderOf (bytes "REM" ++ replicate 78 0) ≡ Nothing)
+    × (orderOf (replicate 81 65) ≡ Nothing)
+unfolding orderOf firstForm forms asRow readFields readChannel readNumber readSigned readDigit readQuestion readFour readZeroThree bytes same digitsAtFront valueFrom hexValue
+long-lines = (refl, refl, refl)

@@ -1,0 +1,147 @@
+-- Document 01, "Lines": the forms, a row each, in the document's order, and the order that a line is.
+use Prim.Native.Nat.{ℕ}
+use Prim.Native.String as S
+use mathlib.Core.List.{List, [], _∷_, _++_}
+use mathlib.Core.Bool.{Bool, true, false, cond}
+use lib.ListN.{length, take, drop}
+use lib.Dec.{leb}
+use Rattle.digits.specs.Text.{bytes, same}
+use Rattle.digits.specs.Places.{cw, ccw}
+use Rattle.line.specs.declared.Written.{Written}
+use Rattle.line.specs.declared.Four.{Four}
+use Rattle.line.specs.declared.Fields.{Fields}
+use Rattle.line.specs.declared.Start.{Start}
+use Rattle.line.specs.declared.Start.the-variants.{Abs, Rel, Scan, Jog}
+use Rattle.line.specs.declared.Setting.{Setting}
+use Rattle.line.specs.declared.Setting.the-variants.{Preset, SetCwLimit, SetCcwLimit, Select, SetSpeed, SetSwitches, SetMotor}
+use Rattle.line.specs.declared.Question.{Question}
+use Rattle.line.specs.declared.Question.the-variants.{AskPosition, AskCwLimit, AskCcwLimit, AskSelected, AskSpeed, AskSwitches, AskMotor, AskStatus}
+use Rattle.line.specs.declared.Order.{Order}
+use Rattle.line.specs.declared.Order.the-variants.{Go, Stop, StopAll, ChangeSpeed, Set, Ask, Local, Remote, AllReply, AskAllReply, AskFlags, AskError, ClearErrors, ClearError}
+use Rattle.line.specs.declared.Parsed.{Parsed}
+use Rattle.line.specs.declared.Parsed.the-variants.{Is, Nothing}
+use Rattle.line.specs.Reading.{Got, got, absent, Field, channel, signed, number, digit, question, four, zeroThree, noFields, readFields}
+
+-- a form: a word, the fields after it, and the order that it is
+pub record Row : Type 0 where
+  pub word : List ℕ
+  pub fields : List Field
+  pub order : Fields → Order
+
+abbrev pub row : S.String → List Field → (Fields → Order) → Row
+row w k o = record { word = bytes w; fields = k; order = o }
+
+-- an order that names the channel x
+abbrev pub starting : (Fields → Start) → Fields → Order
+starting s f = Go (f .channel) (s f)
+
+abbrev pub setting : (Fields → Setting) → Fields → Order
+setting s f = Set (f .channel) (s f)
+
+abbrev pub asking : Question → Fields → Order
+asking q f = Ask (f .channel) q
+
+-- the speeds' numbers: "0 L, 1 M, 2 H"
+abbrev pub lspd : ℕ
+lspd = 0
+
+abbrev pub mspd : ℕ
+mspd = 1
+
+abbrev pub hspd : ℕ
+hspd = 2
+
+-- `ABSx±d`, `RELx±d`, `SCANPx`, `SCANNx`, `JOGPx`, `JOGNx` (P is CW; JOG is REL by +1 or -1).
+abbrev pub startRows : List Row
+startRows =
+    row "ABS" (channel ∷ signed ∷ []) (starting (λ f. Abs (f .written)))
+    ∷ row "REL" (channel ∷ signed ∷ []) (starting (λ f. Rel (f .written)))
+    ∷ row "SCANP" (channel ∷ []) (starting (λ f. Scan cw))
+    ∷ row "SCANN" (channel ∷ []) (starting (λ f. Scan ccw))
+    ∷ row "JOGP" (channel ∷ []) (starting (λ f. Jog cw))
+    ∷ row "JOGN" (channel ∷ []) (starting (λ f. Jog ccw))
+    ∷ []
+
+-- `SSTPx`, `ESTPx`, `ASSTP`, `AESTP`; `SPCxd`. "SSTP and ASSTP with SSEND, ESTP and AESTP with ESEND": 40h and 80h.
+abbrev pub stopRows : List Row
+stopRows =
+    row "SSTP" (channel ∷ []) (λ f. Stop (f .channel) 0x40)
+    ∷ row "ESTP" (channel ∷ []) (λ f. Stop (f .channel) 0x80)
+    ∷ row "ASSTP" [] (λ f. StopAll 0x40)
+    ∷ row "AESTP" [] (λ f. StopAll 0x80)
+    ∷ row "SPC" (channel ∷ number ∷ []) (λ f. ChangeSpeed (f .channel) (f .written .digits))
+    ∷ []
+
+-- `PSx±d`, `FLx±d`, `BLx±d`; `SPDHx`, `SPDMx`, `SPDLx` select; the same with d set; `SETLSxDYYY0yyy`, `SETMTxABCD`.
+abbrev pub settingRows : List Row
+settingRows =
+    row "PS" (channel ∷ signed ∷ []) (setting (λ f. Preset (f .written)))
+    ∷ row "FL" (channel ∷ signed ∷ []) (setting (λ f. SetCwLimit (f .written)))
+    ∷ row "BL" (channel ∷ signed ∷ []) (setting (λ f. SetCcwLimit (f .written)))
+    ∷ row "SPDH" (channel ∷ []) (setting (λ f. Select hspd))
+    ∷ row "SPDM" (channel ∷ []) (setting (λ f. Select mspd))
+    ∷ row "SPDL" (channel ∷ []) (setting (λ f. Select lspd))
+    ∷ row "SPDH" (channel ∷ number ∷ []) (setting (λ f. SetSpeed hspd (f .written .digits)))
+    ∷ row "SPDM" (channel ∷ number ∷ []) (setting (λ f. SetSpeed mspd (f .written .digits)))
+    ∷ row "SPDL" (channel ∷ number ∷ []) (setting (λ f. SetSpeed lspd (f .written .digits)))
+    ∷ row "SETLS" (channel ∷ four ∷ zeroThree ∷ []) (setting (λ f. SetSwitches (f .first) (f .second)))
+    ∷ row "SETMT" (channel ∷ four ∷ []) (setting (λ f. SetMotor (f .first)))
+    ∷ []
+
+-- `PS?x`, `FL?x`, `BL?x`, `SPD?x`, `SPDH?x`, `SPDM?x`, `SPDL?x`, `SETLS?x`, `SETMT?x`, `STSx?`.
+abbrev pub questionRows : List Row
+questionRows =
+    row "PS?" (channel ∷ []) (asking AskPosition)
+    ∷ row "FL?" (channel ∷ []) (asking AskCwLimit)
+    ∷ row "BL?" (channel ∷ []) (asking AskCcwLimit)
+    ∷ row "SPD?" (channel ∷ []) (asking AskSelected)
+    ∷ row "SPDH?" (channel ∷ []) (asking (AskSpeed hspd))
+    ∷ row "SPDM?" (channel ∷ []) (asking (AskSpeed mspd))
+    ∷ row "SPDL?" (channel ∷ []) (asking (AskSpeed lspd))
+    ∷ row "SETLS?" (channel ∷ []) (asking AskSwitches)
+    ∷ row "SETMT?" (channel ∷ []) (asking AskMotor)
+    ∷ row "STS" (channel ∷ question ∷ []) (asking AskStatus)
+    ∷ []
+
+-- `LOC`, `REM`, `ALL_REP EN`, `ALL_REP DS`, `ALL_REP?`, `ERRF?`, `ERR?`, `ERRC`, `ERRCe` (e one digit).
+abbrev pub headRows : List Row
+headRows =
+    row "LOC" [] (λ f. Local)
+    ∷ row "REM" [] (λ f. Remote)
+    ∷ row "ALL_REP EN" [] (λ f. AllReply true)
+    ∷ row "ALL_REP DS" [] (λ f. AllReply false)
+    ∷ row "ALL_REP?" [] (λ f. AskAllReply)
+    ∷ row "ERRF?" [] (λ f. AskFlags)
+    ∷ row "ERR?" [] (λ f. AskError)
+    ∷ row "ERRC" [] (λ f. ClearErrors)
+    ∷ row "ERRC" (digit ∷ []) (λ f. ClearError (f .written .digits))
+    ∷ []
+
+-- a line has a row's form when it begins with the word, the fields follow, and nothing follows them
+abbrev pub whole : (Fields → Order) → Got → Parsed
+whole o (got f []) = Is (o f)
+whole o (got f (b ∷ s)) = Nothing
+whole o absent = Nothing
+
+unfoldable pub asRow : Row → List ℕ → Parsed
+asRow r s =
+    cond (same (take (length (r .word)) s) (r .word))
+    (whole (r .order) (readFields (r .fields) noFields (drop (length (r .word)) s)))
+    Nothing
+
+-- all the forms
+unfoldable pub forms : List Row
+forms = startRows ++ (stopRows ++ (settingRows ++ (questionRows ++ headRows)))
+
+-- the order by the first row whose form the line has
+abbrev pub orElse : Parsed → Parsed → Parsed
+orElse (Is o) later = Is o
+orElse Nothing later = later
+
+unfoldable pub firstForm : List Row → List ℕ → Parsed
+firstForm [] s = Nothing
+firstForm (r ∷ rs) s = orElse (asRow r s) (firstForm rs s)
+
+-- "0 to 80 bytes, without CR LF; longer is 1. Capitals only."
+unfoldable pub orderOf : List ℕ → Parsed
+orderOf s = cond (leb (length s) 80) (firstForm forms s) Nothing

@@ -1,0 +1,98 @@
+-- Document 01, "Lines": the fields that a line is made of, each read off the front of the bytes that are left.
+use Prim.Native.Nat.{ℕ, _+_, _-_}
+use mathlib.Core.List.{List, [], _∷_}
+use mathlib.Core.Bool.{Bool, true, false, _&&_, cond}
+use lib.ListN.{take, drop, getD}
+use lib.Dec.{leb, eqb}
+use Rattle.digits.specs.Text.{isHex, hexValue, digitsAtFront, valueOf}
+use Rattle.line.specs.declared.Written.{Written}
+use Rattle.line.specs.declared.Four.{Four}
+use Rattle.line.specs.declared.Fields.{Fields}
+
+-- what reading a field gives: the fields so far and the bytes after it, or that it is not there
+pub data Got : Type 0 where
+  got : Fields → List ℕ → Got
+  absent : Got
+
+abbrev pub gotIf : Bool → Fields → List ℕ → Got
+gotIf true f s = got f s
+gotIf false f s = absent
+
+-- the kinds of field: x; ±d; d; e; the ? of STSx?; four digits, as DYYY and ABCD; the 0yyy of SETLS
+pub data Field : Type 0 where
+  channel signed number digit question four zeroThree : Field
+
+-- no field yet
+abbrev pub noFields : Fields
+noFields =
+    record {
+      channel = 0;
+      written = record { minus = false; digits = 0 };
+      first = record { a = 0; b = 0; c = 0; d = 0 };
+      second = record { a = 0; b = 0; c = 0; d = 0 };
+    }
+
+-- the fields with one more
+abbrev pub withChannel : Fields → ℕ → Fields
+withChannel f x = record { channel = x; written = f .written; first = f .first; second = f .second }
+
+abbrev pub withWritten : Fields → Bool → ℕ → Fields
+withWritten f minus n = record { channel = f .channel; written = record { minus = minus; digits = n }; first = f .first; second = f .second }
+
+abbrev pub withFirst : Fields → Four → Fields
+withFirst f q = record { channel = f .channel; written = f .written; first = q; second = f .second }
+
+abbrev pub withSecond : Fields → Four → Fields
+withSecond f q = record { channel = f .channel; written = f .written; first = f .first; second = q }
+
+-- "x is one of 0-9, A-F"
+unfoldable pub readChannel : Fields → List ℕ → Got
+readChannel f [] = absent
+readChannel f (b ∷ s) = gotIf (isHex b) (withChannel f (hexValue b)) s
+
+-- "d: 1 to 10 digits", as many as stand there
+unfoldable pub readNumber : Bool → Fields → List ℕ → Got
+readNumber minus f s =
+    let n = digitsAtFront s in
+    gotIf (leb 1 n && leb n 10) (withWritten f minus (valueOf (take n s))) (drop n s)
+
+-- "±d: a sign, then 1 to 10 digits"
+unfoldable pub readSigned : Fields → List ℕ → Got
+readSigned f [] = absent
+readSigned f (b ∷ s) = cond (eqb b 43) (readNumber false f s) (cond (eqb b 45) (readNumber true f s) absent)
+
+-- "e one digit"
+unfoldable pub readDigit : Fields → List ℕ → Got
+readDigit f s = gotIf (leb 1 (digitsAtFront s)) (withWritten f false (getD s 0 48 - 48)) (drop 1 s)
+
+unfoldable pub readQuestion : Fields → List ℕ → Got
+readQuestion f [] = absent
+readQuestion f (b ∷ s) = gotIf (eqb b 63) f s
+
+-- "In SETLS and SETMT each letter after x is one decimal digit and the 0 is itself"
+abbrev pub fourOf : List ℕ → Four
+fourOf s = record { a = getD s 0 48 - 48; b = getD s 1 48 - 48; c = getD s 2 48 - 48; d = getD s 3 48 - 48 }
+
+unfoldable pub readFour : Fields → List ℕ → Got
+readFour f s = gotIf (leb 4 (digitsAtFront s)) (withFirst f (fourOf s)) (drop 4 s)
+
+unfoldable pub readZeroThree : Fields → List ℕ → Got
+readZeroThree f s = gotIf (leb 4 (digitsAtFront s) && eqb (getD s 0 0) 48) (withSecond f (fourOf s)) (drop 4 s)
+
+abbrev pub readField : Field → Fields → List ℕ → Got
+readField channel f s = readChannel f s
+readField signed f s = readSigned f s
+readField number f s = readNumber false f s
+readField digit f s = readDigit f s
+readField question f s = readQuestion f s
+readField four f s = readFour f s
+readField zeroThree f s = readZeroThree f s
+
+-- fields one after the other
+abbrev pub onward : Got → (Fields → List ℕ → Got) → Got
+onward (got f s) next = next f s
+onward absent next = absent
+
+unfoldable pub readFields : List Field → Fields → List ℕ → Got
+readFields [] f s = got f s
+readFields (k ∷ ks) f s = onward (readField k f s) (λ g t. readFields ks g t)

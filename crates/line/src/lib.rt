@@ -1,0 +1,79 @@
+// A command line and the order that it is. An order carries what was written, in range or not: a value is judged later, in
+// its place among the refusals. The lines themselves are listed in specs/Forms.antt, row by row.
+
+// A number as it was written: its sign, and the value of its 1 to 10 digits.
+pub struct Written {
+    pub minus: bool,
+    pub digits: u64,
+}
+
+// Four decimal digits as they were written.
+pub struct Four {
+    pub a: u8,
+    pub b: u8,
+    pub c: u8,
+    pub d: u8,
+}
+
+// What the fields of a line gave: the channel x, a number, and two groups of four digits (DYYY and 0yyy, or ABCD).
+pub struct Fields {
+    pub channel: u8,
+    pub written: Written,
+    pub first: Four,
+    pub second: Four,
+}
+
+// Starts. A direction is 1 for CW (P) and 2 for CCW (N).
+pub enum Start {
+    Abs(Written),
+    Rel(Written),
+    Scan(u8),
+    Jog(u8),
+}
+
+// Settings of a channel. A speed is numbered 0 L, 1 M, 2 H.
+pub enum Setting {
+    Preset(Written),
+    SetCwLimit(Written),
+    SetCcwLimit(Written),
+    Select(u8),
+    SetSpeed(u8, u64),
+    SetSwitches(Four, Four),
+    SetMotor(Four),
+}
+
+// What is asked of a channel.
+pub enum Question {
+    AskPosition,
+    AskCwLimit,
+    AskCcwLimit,
+    AskSelected,
+    AskSpeed(u8),
+    AskSwitches,
+    AskMotor,
+    AskStatus,
+}
+
+// An order, with the channel that it names first. A stop carries the end flag that it sets.
+pub enum Order {
+    Go(u8, Start),
+    Stop(u8, u8),
+    StopAll(u8),
+    ChangeSpeed(u8, u64),
+    Set(u8, Setting),
+    Ask(u8, Question),
+    Local,
+    Remote,
+    AllReply(bool),
+    AskAllReply,
+    AskFlags,
+    AskError,
+    ClearErrors,
+    ClearError(u64),
+}
+
+// What a line is: an order, or nothing that has one of the forms.
+pub enum Parsed {
+    Is(Order),
+    Nothing,
+}

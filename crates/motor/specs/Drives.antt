@@ -1,0 +1,101 @@
+-- Document 01: what starts a drive, what changes it and what ends it.
+use Prim.Native.Nat.{ℕ, _+_, _-_}
+use mathlib.Core.Bool.{Bool, true, false, _&&_, not, cond}
+use lib.Dec.{eqb, ltb}
+use Rattle.digits.specs.Places.{origin, isPosition, moved, cw, ccw}
+use Rattle.motor.specs.declared.Speeds.{Speeds}
+use Rattle.motor.specs.declared.Wiring.{Wiring}
+use Rattle.motor.specs.declared.Drive.{Drive}
+use Rattle.motor.specs.declared.Motor.{Motor}
+use Rattle.motor.specs.declared.Course.{Course}
+use Rattle.motor.specs.declared.Course.the-variants.{Stay, Beyond, To, Along}
+use Rattle.motor.specs.declared.Verdict.{Verdict}
+use Rattle.motor.specs.declared.Verdict.the-variants.{Done, Busy, OutOfRange, Disabled, SwitchAhead, NoRoom, NotDriving}
+use Rattle.motor.specs.Record.{withWiring, withDrive, standing}
+use Rattle.motor.specs.Switches.{blocked, room}
+use Rattle.motor.specs.Sound.{driving}
+
+-- "end flags: 80h ESEND, 40h SSEND, 20h LSEND"
+abbrev pub esend : ℕ
+esend = 0x80
+
+abbrev pub ssend : ℕ
+ssend = 0x40
+
+abbrev pub lsend : ℕ
+lsend = 0x20
+
+-- "selected speed: 0 L, 1 M, 2 H"
+unfoldable pub speedNumbered : ℕ → Speeds → ℕ
+speedNumbered k s = cond (eqb k 0) (s .low) (cond (eqb k 1) (s .middle) (s .high))
+
+abbrev pub selectedSpeed : Motor → ℕ
+selectedSpeed m = speedNumbered (m .speeds .selected) (m .speeds)
+
+-- the course to n pulses from p in a direction: "ABS to the present position, REL 0 .. change nothing"; beyond the range;
+-- or the place
+unfoldable pub courseTo : Motor → ℕ → ℕ → ℕ → Course
+courseTo m going p n =
+    cond (eqb (moved going p n) (m .place)) Stay
+    (cond (isPosition (moved going p n)) (To (moved going p n)) Beyond)
+
+-- the direction in which a place lies from here
+unfoldable pub towards : Motor → ℕ → ℕ
+towards m p = cond (ltb (m .place) p) cw ccw
+
+-- what keeps a stopped motor from leaving in a direction: "A = 0; an active enabled switch ahead; no room"
+unfoldable pub hindrance : Motor → ℕ → Verdict
+hindrance m going =
+    cond (eqb (m .setup .a) 0) Disabled
+    (cond (blocked going m) SwitchAhead
+    (cond (eqb (room going m) 0) NoRoom
+    Done))
+
+-- "busy, target out of range .., the other causes of 4"; a course that stays "passes through all checks down to busy .. and
+-- then meets no later check"
+abbrev pub judgeCourse : Motor → Course → Verdict
+judgeCourse m Stay = Done
+judgeCourse m Beyond = OutOfRange
+judgeCourse m (To p) = hindrance m (towards m p)
+judgeCourse m (Along going) = hindrance m going
+
+unfoldable pub judgeStart : Motor → Course → Verdict
+judgeStart m c = cond (driving m) Busy (judgeCourse m c)
+
+-- "A start takes the selected speed, fraction 0, and clears the end flags."
+abbrev pub launched : Motor → ℕ → ℕ → ℕ → Motor
+launched m going kind target =
+    withDrive m 0 (record { going = going; kind = kind; fraction = 0; speed = selectedSpeed m; target = target })
+
+-- the motor after an accepted start
+unfoldable pub started : Motor → Course → Motor
+started m Stay = m
+started m Beyond = m
+started m (To p) = launched m (towards m p) 1 p
+started m (Along going) = launched m going 0 origin
+
+-- "Ending zeroes bytes 32..43", and sets the end flags
+abbrev pub endedWith : ℕ → Motor → Motor
+endedWith flags m = withDrive m flags standing
+
+-- "A stop ends the drive at once"; "a stop on a stopped motor" changes nothing
+unfoldable pub stopped : ℕ → Motor → Motor
+stopped flags m = cond (driving m) (endedWith flags m) m
+
+-- "SPC replaces the speed in force and keeps the fraction"; it is 4 on a stopped motor
+abbrev pub judgeSpeedChange : Motor → Verdict
+judgeSpeedChange m = cond (driving m) Done NotDriving
+
+unfoldable pub speedChanged : Motor → ℕ → Motor
+speedChanged m v =
+    withDrive m (m .ended)
+    (record { going = m .drive .going; kind = m .drive .kind; fraction = m .drive .fraction; speed = v; target = m .drive .target })
+
+-- "A switch reading replaces the contacts. If the channel drives and the switch of its direction is now active and enabled,
+-- the drive ends at once with LSEND. HP ends nothing here."
+abbrev pub contacted : Motor → ℕ → Motor
+contacted m n = withWiring m (record { setls = m .wiring .setls; contacts = n })
+
+unfoldable pub switchRead : Motor → ℕ → Motor
+switchRead m n =
+    cond (driving m && blocked (m .drive .going) (contacted m n)) (endedWith lsend (contacted m n)) (contacted m n)

@@ -1,0 +1,120 @@
+-- Document 01, "The table": one record of 64 bytes, read out and written back, and the record of a fresh table.
+use Prim.Native.Nat.{ℕ, _+_, _-_}
+use mathlib.Core.List.{List, [], _∷_, _++_}
+use lib.ListN.{replicate}
+use Rattle.digits.specs.Bytes.{part}
+use Rattle.digits.specs.Words.{word, wordBytes}
+use Rattle.digits.specs.Places.{origin, placeOf, wordOf}
+use Rattle.motor.specs.declared.Limits.{Limits}
+use Rattle.motor.specs.declared.Speeds.{Speeds}
+use Rattle.motor.specs.declared.Wiring.{Wiring}
+use Rattle.motor.specs.declared.Setup.{Setup}
+use Rattle.motor.specs.declared.Drive.{Drive}
+use Rattle.motor.specs.declared.Motor.{Motor}
+
+-- what stands at an offset of a record: a byte, a number of two or four bytes, a signed number of four as its place
+abbrev pub byteAt : List ℕ → ℕ → ℕ
+byteAt b at = word (part b at 1)
+
+abbrev pub shortAt : List ℕ → ℕ → ℕ
+shortAt b at = word (part b at 2)
+
+abbrev pub longAt : List ℕ → ℕ → ℕ
+longAt b at = word (part b at 4)
+
+abbrev pub placeAt : List ℕ → ℕ → ℕ
+placeAt b at = placeOf (longAt b at)
+
+-- "Record bytes": 0-3, 4-7, 8-11 "position, CW digital limit, CCW digital limit"
+abbrev pub limitsOf : List ℕ → Limits
+limitsOf b = record { cw = placeAt b 4; ccw = placeAt b 8 }
+
+-- 12-15, 16-19, 20-23 "HSPD, MSPD, LSPD"; 24 "selected speed: 0 L, 1 M, 2 H"
+abbrev pub speedsOf : List ℕ → Speeds
+speedsOf b = record { high = longAt b 12; middle = longAt b 16; low = longAt b 20; selected = byteAt b 24 }
+
+-- 25 "the SETLS digits DYYY0yyy read as a binary byte"; 26 "contacts, closed = 1: bit 0 CW, bit 1 CCW, bit 2 HP"
+abbrev pub wiringOf : List ℕ → Wiring
+wiringOf b = record { setls = byteAt b 25; contacts = byteAt b 26 }
+
+-- 27, 28, 29, 30 "SETMT digits A (0, 1), B (0, 1), C (0), D (0..2)"
+abbrev pub setupOf : List ℕ → Setup
+setupOf b = record { a = byteAt b 27; b = byteAt b 28; c = byteAt b 29; d = byteAt b 30 }
+
+-- 32, 33 "0 stopped, 1 CW, 2 CCW; kind: 0 scan, 1 to a target"; 34-35, 36-39, 40-43 "fraction 0..999, speed in force, target"
+abbrev pub driveOf : List ℕ → Drive
+driveOf b =
+    record
+    { going = byteAt b 32; kind = byteAt b 33; fraction = shortAt b 34; speed = longAt b 36; target = placeAt b 40 }
+
+-- the motor that a record holds; 31 "end flags: 80h ESEND, 40h SSEND, 20h LSEND, or 0"
+unfoldable pub motorOf : List ℕ → Motor
+motorOf b =
+    record {
+      place = placeAt b 0;
+      limits = limitsOf b;
+      speeds = speedsOf b;
+      wiring = wiringOf b;
+      setup = setupOf b;
+      ended = byteAt b 31;
+      drive = driveOf b;
+    }
+
+-- a motor's topics as bytes, in the record's order
+abbrev pub placeBytes : ℕ → List ℕ
+placeBytes p = wordBytes 4 (wordOf p)
+
+abbrev pub speedBytes : Speeds → List ℕ
+speedBytes s = wordBytes 4 (s .high) ++ (wordBytes 4 (s .middle) ++ (wordBytes 4 (s .low) ++ (s .selected ∷ [])))
+
+abbrev pub setupBytes : Setup → List ℕ
+setupBytes s = s .a ∷ s .b ∷ s .c ∷ s .d ∷ []
+
+abbrev pub driveBytes : Drive → List ℕ
+driveBytes d =
+    d .going ∷ d .kind ∷ (wordBytes 2 (d .fraction) ++ (wordBytes 4 (d .speed) ++ placeBytes (d .target)))
+
+-- the record of a motor; 44-63 "zero"
+unfoldable pub recordOf : Motor → List ℕ
+recordOf m =
+    placeBytes (m .place) ++ (placeBytes (m .limits .cw) ++ (placeBytes (m .limits .ccw) ++ (speedBytes (m .speeds)
+    ++ (m .wiring .setls ∷ m .wiring .contacts ∷ (setupBytes (m .setup)
+    ++ (m .ended ∷ (driveBytes (m .drive) ++ replicate 20 0)))))))
+
+-- the motor with one topic replaced
+abbrev pub withPlace : Motor → ℕ → Motor
+withPlace m p = record { place = p; limits = m .limits; speeds = m .speeds; wiring = m .wiring; setup = m .setup; ended = m .ended; drive = m .drive }
+
+abbrev pub withLimits : Motor → Limits → Motor
+withLimits m l = record { place = m .place; limits = l; speeds = m .speeds; wiring = m .wiring; setup = m .setup; ended = m .ended; drive = m .drive }
+
+abbrev pub withSpeeds : Motor → Speeds → Motor
+withSpeeds m s = record { place = m .place; limits = m .limits; speeds = s; wiring = m .wiring; setup = m .setup; ended = m .ended; drive = m .drive }
+
+abbrev pub withWiring : Motor → Wiring → Motor
+withWiring m w = record { place = m .place; limits = m .limits; speeds = m .speeds; wiring = w; setup = m .setup; ended = m .ended; drive = m .drive }
+
+abbrev pub withSetup : Motor → Setup → Motor
+withSetup m s = record { place = m .place; limits = m .limits; speeds = m .speeds; wiring = m .wiring; setup = s; ended = m .ended; drive = m .drive }
+
+-- a drive and the end flags change together: a start clears them and an end sets them
+abbrev pub withDrive : Motor → ℕ → Drive → Motor
+withDrive m e d = record { place = m .place; limits = m .limits; speeds = m .speeds; wiring = m .wiring; setup = m .setup; ended = e; drive = d }
+
+-- "a stopped record has zeros in 33..43": no drive
+abbrev pub standing : Drive
+standing = record { going = 0; kind = 0; fraction = 0; speed = 0; target = origin }
+
+-- "Fresh: .. position 0, limits +1,000,000 and -1,000,000 (003), HSPD 1000, MSPD 800, LSPD 50, selected M, SETLS 01110000,
+-- SETMT 1100, contacts all open, stopped."
+unfoldable pub freshMotor : Motor
+freshMotor =
+    record {
+      place = origin;
+      limits = record { cw = origin + 1000000; ccw = origin - 1000000 };
+      speeds = record { high = 1000; middle = 800; low = 50; selected = 1 };
+      wiring = record { setls = 0b01110000; contacts = 0 };
+      setup = record { a = 1; b = 1; c = 0; d = 0 };
+      ended = 0;
+      drive = standing;
+    }

@@ -1,0 +1,76 @@
+-- Document 01, "The table": "A table is *sound* when every field is in its range, every byte given as zero is zero, and" the
+-- rules for a stopped and for a driving record hold. Here: of one record.
+use Prim.Native.Nat.{ℕ, _+_, _-_}
+use mathlib.Core.List.{List}
+use mathlib.Core.Bool.{Bool, true, false, _&&_, _||_, not, cond}
+use lib.ListN.{length}
+use lib.Dec.{eqb, leb, ltb}
+use Rattle.digits.specs.Bytes.{part, allZero}
+use Rattle.digits.specs.Words.{isSet}
+use Rattle.digits.specs.Places.{origin, isPosition, ahead}
+use Rattle.motor.specs.declared.Limits.{Limits}
+use Rattle.motor.specs.declared.Speeds.{Speeds}
+use Rattle.motor.specs.declared.Wiring.{Wiring}
+use Rattle.motor.specs.declared.Setup.{Setup}
+use Rattle.motor.specs.declared.Drive.{Drive}
+use Rattle.motor.specs.declared.Motor.{Motor}
+use Rattle.motor.specs.Record.{motorOf}
+use Rattle.motor.specs.Switches.{blocked, room}
+
+-- "Speeds run from 1 to 5,000,000 pulses per second"
+abbrev pub isSpeed : ℕ → Bool
+isSpeed v = leb 1 v && leb v 5000000
+
+-- "every field is in its range", topic by topic
+unfoldable pub limitsInRange : Limits → Bool
+limitsInRange l = isPosition (l .cw) && isPosition (l .ccw)
+
+unfoldable pub speedsInRange : Speeds → Bool
+speedsInRange s = isSpeed (s .high) && isSpeed (s .middle) && isSpeed (s .low) && leb (s .selected) 2
+
+-- the 0 of DYYY0yyy is bit 3 of the byte
+unfoldable pub wiringInRange : Wiring → Bool
+wiringInRange w = leb (w .setls) 255 && not (isSet 3 (w .setls)) && leb (w .contacts) 7
+
+unfoldable pub setupInRange : Setup → Bool
+setupInRange s = leb (s .a) 1 && leb (s .b) 1 && eqb (s .c) 0 && leb (s .d) 2
+
+abbrev pub endFlagsInRange : ℕ → Bool
+endFlagsInRange e = eqb e 0 || eqb e 0x20 || eqb e 0x40 || eqb e 0x80
+
+unfoldable pub driveInRange : Drive → Bool
+driveInRange d = leb (d .going) 2 && leb (d .kind) 1 && leb (d .fraction) 999 && isPosition (d .target)
+
+unfoldable pub inRange : Motor → Bool
+inRange m =
+    isPosition (m .place) && limitsInRange (m .limits) && speedsInRange (m .speeds)
+    && (wiringInRange (m .wiring) && setupInRange (m .setup) && endFlagsInRange (m .ended) && driveInRange (m .drive))
+
+-- "a stopped record has zeros in 33..43"
+unfoldable pub atRest : Drive → Bool
+atRest d = eqb (d .kind) 0 && eqb (d .fraction) 0 && eqb (d .speed) 0 && eqb (d .target) origin
+
+-- "for a target, a target strictly ahead (for a scan, target field 0)"
+unfoldable pub aimRight : Motor → Bool
+aimRight m =
+    cond (eqb (m .drive .kind) 1)
+    (leb 1 (ahead (m .drive .going) (m .place) (m .drive .target)))
+    (eqb (m .drive .target) origin)
+
+-- "a driving record has end flags 0, A = 1, at least one pulse of room (below), no active enabled switch in its direction,
+-- and" the aim above; its speed in force is a speed
+unfoldable pub underWay : Motor → Bool
+underWay m =
+    eqb (m .ended) 0 && eqb (m .setup .a) 1 && isSpeed (m .drive .speed)
+    && (leb 1 (room (m .drive .going) m) && not (blocked (m .drive .going) m) && aimRight m)
+
+-- 0 is stopped
+abbrev pub driving : Motor → Bool
+driving m = not (eqb (m .drive .going) 0)
+
+unfoldable pub soundMotor : Motor → Bool
+soundMotor m = inRange m && cond (driving m) (underWay m) (atRest (m .drive))
+
+-- a record's 64 bytes are sound: the motor in them is, and "44-63 zero"
+unfoldable pub soundRecord : List ℕ → Bool
+soundRecord b = eqb (length b) 64 && soundMotor (motorOf b) && allZero (part b 44 20)

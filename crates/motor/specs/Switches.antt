@@ -1,0 +1,47 @@
+-- Document 01, "Switches and room".
+use Prim.Native.Nat.{ℕ, _+_, _-_, min, max}
+use mathlib.Core.Bool.{Bool, true, false, _&&_, not, cond}
+use lib.Dec.{eqb, leb}
+use Rattle.digits.specs.Words.{bit, isSet}
+use Rattle.digits.specs.Places.{lowest, highest, ahead, cw, ccw}
+use Rattle.motor.specs.declared.Wiring.{Wiring}
+use Rattle.motor.specs.declared.Motor.{Motor}
+
+-- the switches by number, as the contacts' bits have them: 0 CW, 1 CCW, 2 HP; and the switch that a direction runs into
+abbrev pub switchOf : ℕ → ℕ
+switchOf going = cond (eqb going cw) 0 1
+
+-- "Polarity and enable digits stand in the order HP, CCW, CW; enable 1 = on; polarity 1 = N.C., 0 = N.O." So of DYYY0yyy
+-- read as a byte, bit 7 is D, bits 6 to 4 enable HP, CCW and CW, and bits 2 to 0 are their polarities.
+abbrev pub digital : Wiring → Bool
+digital w = isSet 7 (w .setls)
+
+abbrev pub enabled : ℕ → Wiring → Bool
+enabled s w = isSet (4 + s) (w .setls)
+
+abbrev pub normallyClosed : ℕ → Wiring → Bool
+normallyClosed s w = isSet s (w .setls)
+
+abbrev pub closed : ℕ → Wiring → Bool
+closed s w = isSet s (w .contacts)
+
+-- "A switch is *active* when its contact is closed and N.O., or open and N.C."
+unfoldable pub active : ℕ → Wiring → Bool
+active s w = cond (normallyClosed s w) (not (closed s w)) (closed s w)
+
+-- an active enabled switch in a direction
+unfoldable pub blocked : ℕ → Motor → Bool
+blocked going m = enabled (switchOf going) (m .wiring) && active (switchOf going) (m .wiring)
+
+-- the last place that a motor may reach: "the smaller of +2,147,483,647 and, if D = 1, the CW digital limit", or "the
+-- larger of -2,147,483,647 and, if D = 1, the CCW digital limit". "Limits may cross; each direction looks only at its own."
+unfoldable pub edge : ℕ → Motor → ℕ
+edge going m =
+    cond (eqb going cw)
+    (cond (digital (m .wiring)) (min highest (m .limits .cw)) highest)
+    (cond (digital (m .wiring)) (max lowest (m .limits .ccw)) lowest)
+
+-- "CW room is the smaller .. less the position. CCW room is the position less the larger ..": none where the motor stands
+-- at the edge or past it
+unfoldable pub room : ℕ → Motor → ℕ
+room going m = ahead going (m .place) (edge going m)

@@ -1,0 +1,52 @@
+-- Document 01, "The table: 1,088 bytes".
+use Prim.Native.Nat.{ℕ, _+_, _*_}
+use mathlib.Core.List.{List, [], _∷_, _++_}
+use lib.ListN.{replicate}
+use Rattle.digits.specs.Bytes.{part, put, gather, filled}
+use Rattle.digits.specs.Words.{word}
+use Rattle.motor.specs.declared.Motor.{Motor}
+use Rattle.motor.specs.Record.{motorOf, recordOf, freshMotor}
+
+abbrev pub tableSize : ℕ
+tableSize = 1088
+
+-- "Head: byte 0 mode (0 local, 1 remote); byte 1 all-reply (0 off, 1 on); byte 2 error flags 0..15"
+abbrev pub mode : List ℕ → ℕ
+mode t = word (part t 0 1)
+
+abbrev pub allReply : List ℕ → ℕ
+allReply t = word (part t 1 1)
+
+abbrev pub errors : List ℕ → ℕ
+errors t = word (part t 2 1)
+
+abbrev pub withMode : List ℕ → ℕ → List ℕ
+withMode t n = put t 0 (n ∷ [])
+
+abbrev pub withAllReply : List ℕ → ℕ → List ℕ
+withAllReply t n = put t 1 (n ∷ [])
+
+abbrev pub withErrors : List ℕ → ℕ → List ℕ
+withErrors t n = put t 2 (n ∷ [])
+
+-- "the record of channel c starts at 64 + 64c"
+abbrev pub recordStart : ℕ → ℕ
+recordStart c = 64 + 64 * c
+
+abbrev pub recordAt : List ℕ → ℕ → List ℕ
+recordAt t c = part t (recordStart c) 64
+
+unfoldable pub motorAt : List ℕ → ℕ → Motor
+motorAt t c = motorOf (recordAt t c)
+
+-- the table with channel c's record written anew, and every other byte as it was
+unfoldable pub withMotor : List ℕ → ℕ → Motor → List ℕ
+withMotor t c m = put t (recordStart c) (recordOf m)
+
+-- the table with each of the sixteen motors changed
+unfoldable pub withMotors : List ℕ → (Motor → Motor) → List ℕ
+withMotors t f = filled t 64 64 (λ c. recordOf (f (motorAt t c))) 16
+
+-- "Fresh: local, all-reply off, no error flags", and sixteen fresh motors
+unfoldable pub freshTable : List ℕ
+freshTable = replicate 64 0 ++ gather (λ c. recordOf freshMotor) 16

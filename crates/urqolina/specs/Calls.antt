@@ -1,0 +1,99 @@
+-- The four calls, each a function from all its inputs to all that it leaves: the result, the table, and the reply or the pulse
+-- buffer. The inputs are any lists and any numbers.
+use Prim.Native.Nat.{ℕ, _+_, _*_}
+use mathlib.Core.List.{List, [], _∷_, _++_}
+use mathlib.Core.Bool.{Bool, true, false, _&&_, not, cond}
+use lib.ListN.{length}
+use lib.Dec.{eqb, leb}
+use Rattle.digits.specs.Bytes.{put, gather}
+use Rattle.digits.specs.Words.{wordBytes}
+use Rattle.motor.specs.declared.Verdict.{Verdict}
+use Rattle.motor.specs.declared.Verdict.the-variants.{Done, NoForm, WrongSize, NotSound}
+use Rattle.motor.specs.declared.Motor.{Motor}
+use Rattle.motor.specs.Numbers.{numberOf}
+use Rattle.motor.specs.Drives.{switchRead}
+use Rattle.motor.specs.Ticks.{tickMotor, tickCount}
+use Rattle.line.specs.declared.Order.{Order}
+use Rattle.line.specs.declared.Parsed.{Parsed}
+use Rattle.line.specs.declared.Parsed.the-variants.{Is, Nothing}
+use Rattle.line.specs.Forms.{orderOf}
+use Rattle.table.specs.Layout.{tableSize, motorAt, withMotor, withMotors, freshTable}
+use Rattle.table.specs.Sound.{soundTable}
+use Rattle.urqolina.specs.Judging.{judge}
+use Rattle.urqolina.specs.Changing.{changed, flagged}
+use Rattle.urqolina.specs.Replies.{echo, answer}
+
+-- "5, 6, ..": the sizes first, then the table
+abbrev pub refusal : Bool → List ℕ → Verdict
+refusal sizesRight t = cond sizesRight (cond (soundTable t) Done NotSound) WrongSize
+
+abbrev pub accepted : Verdict → Bool
+accepted v = eqb (numberOf v) 0
+
+-- what a fresh call and a reading leave
+pub record TableAfter : Type 0 where
+  pub result : ℕ
+  pub table : List ℕ
+
+-- Fresh: "fresh gives only 0 or 5"
+unfoldable pub freshCall : List ℕ → TableAfter
+freshCall t =
+    cond (eqb (length t) tableSize)
+    (record { result = numberOf Done; table = freshTable })
+    (record { result = numberOf WrongSize; table = t })
+
+-- what a command leaves
+pub record CommandAfter : Type 0 where
+  pub result : ℕ
+  pub table : List ℕ
+  pub reply : List ℕ
+
+-- "The command's result is the number plus 256 times the reply length." "Bytes past the reply stay as they were."
+abbrev pub replied : Verdict → List ℕ → List ℕ → List ℕ → CommandAfter
+replied v t text reply = record { result = numberOf v + 256 * length text; table = t; reply = put reply 0 text }
+
+-- a line that is refused with a number from 1 to 4
+unfoldable pub refused : List ℕ → Verdict → List ℕ → CommandAfter
+refused t v reply = replied v (flagged t v) (echo (flagged t v) v) reply
+
+-- an order that is accepted: the answer is made on the table after it
+unfoldable pub obeyed : List ℕ → Order → List ℕ → CommandAfter
+obeyed t o reply = replied Done (changed t o) (answer (changed t o) o) reply
+
+-- a line on a sound table
+unfoldable pub taken : List ℕ → Parsed → List ℕ → CommandAfter
+taken t Nothing reply = refused t NoForm reply
+taken t (Is o) reply = cond (accepted (judge t o)) (obeyed t o reply) (refused t (judge t o) reply)
+
+-- "table not 1,088 bytes, reply buffer under 32" is 5; "5 and 6 change nothing anywhere"
+unfoldable pub commandCall : List ℕ → List ℕ → List ℕ → CommandAfter
+commandCall t line reply =
+    let v = refusal (eqb (length t) tableSize && leb 32 (length reply)) t in
+    cond (accepted v)
+    (taken t (orderOf line) reply)
+    (record { result = numberOf v; table = t; reply = reply })
+
+-- A switch reading: "channel over 15, contacts over 7" is 5
+unfoldable pub readingCall : List ℕ → ℕ → ℕ → TableAfter
+readingCall t c n =
+    let v = refusal (eqb (length t) tableSize && leb c 15 && leb n 7) t in
+    cond (accepted v)
+    (record { result = numberOf Done; table = withMotor t c (switchRead (motorAt t c) n) })
+    (record { result = numberOf v; table = t })
+
+-- what a tick leaves
+pub record TickAfter : Type 0 where
+  pub result : ℕ
+  pub table : List ℕ
+  pub pulses : List ℕ
+
+-- One tick of every channel. "The pulse buffer is 64 bytes: sixteen signed 32-bit counts"
+unfoldable pub countBytes : List ℕ → ℕ → List ℕ
+countBytes t c = wordBytes 4 (tickCount (motorAt t c))
+
+unfoldable pub tickCall : List ℕ → List ℕ → TickAfter
+tickCall t pulses =
+    let v = refusal (eqb (length t) tableSize && eqb (length pulses) 64) t in
+    cond (accepted v)
+    (record { result = numberOf Done; table = withMotors t (λ m. tickMotor m .motor); pulses = gather (countBytes t) 16 })
+    (record { result = numberOf v; table = t; pulses = pulses })

@@ -1,0 +1,77 @@
+-- What an accepted order changes in the table, and what a refusal changes. Document 01, "Lines" and "Numbers handed back".
+use Prim.Native.Nat.{ℕ, _+_, _*_, _-_}
+use mathlib.Core.List.{List}
+use mathlib.Core.Bool.{Bool, true, false, cond}
+use lib.Dec.{eqb}
+use Rattle.digits.specs.Words.{withBit, withoutBit}
+use Rattle.motor.specs.declared.Speeds.{Speeds}
+use Rattle.motor.specs.declared.Motor.{Motor}
+use Rattle.motor.specs.declared.Verdict.{Verdict}
+use Rattle.motor.specs.declared.Verdict.the-variants.{Done, NoForm, Busy, OutOfRange, LocalMode, Disabled, SwitchAhead, NoRoom, NotDriving, WrongSize, NotSound}
+use Rattle.motor.specs.Record.{withPlace, withLimits, withSpeeds, withWiring, withSetup}
+use Rattle.motor.specs.Drives.{started, stopped, speedChanged}
+use Rattle.line.specs.declared.Four.{Four}
+use Rattle.line.specs.declared.Setting.{Setting}
+use Rattle.line.specs.declared.Setting.the-variants.{Preset, SetCwLimit, SetCcwLimit, Select, SetSpeed, SetSwitches, SetMotor}
+use Rattle.line.specs.declared.Order.{Order}
+use Rattle.line.specs.declared.Order.the-variants.{Go, Stop, StopAll, ChangeSpeed, Set, Ask, Local, Remote, AllReply, AskAllReply, AskFlags, AskError, ClearErrors, ClearError}
+use Rattle.table.specs.Layout.{mode, errors, withMode, withAllReply, withErrors, motorAt, withMotor, withMotors}
+use Rattle.urqolina.specs.Judging.{placeWritten, courseOf}
+
+-- the speeds with the one numbered k replaced: 0 L, 1 M, 2 H
+abbrev pub withSpeed : Speeds → ℕ → ℕ → Speeds
+withSpeed s k v =
+    record {
+      high = cond (eqb k 2) v (s .high);
+      middle = cond (eqb k 1) v (s .middle);
+      low = cond (eqb k 0) v (s .low);
+      selected = s .selected;
+    }
+
+-- "the SETLS digits DYYY0yyy read as a binary byte"
+abbrev pub binary : Four → ℕ
+binary q = 8 * q .a + 4 * q .b + 2 * q .c + q .d
+
+-- the motor with a setting made
+unfoldable pub withSetting : Motor → Setting → Motor
+withSetting m (Preset w) = withPlace m (placeWritten w)
+withSetting m (SetCwLimit w) = withLimits m (record { cw = placeWritten w; ccw = m .limits .ccw })
+withSetting m (SetCcwLimit w) = withLimits m (record { cw = m .limits .cw; ccw = placeWritten w })
+withSetting m (Select k) =
+    withSpeeds m (record { high = m .speeds .high; middle = m .speeds .middle; low = m .speeds .low; selected = k })
+withSetting m (SetSpeed k v) = withSpeeds m (withSpeed (m .speeds) k v)
+withSetting m (SetSwitches q r) =
+    withWiring m (record { setls = 16 * binary q + binary r; contacts = m .wiring .contacts })
+withSetting m (SetMotor q) = withSetup m (record { a = q .a; b = q .b; c = q .c; d = q .d })
+
+-- the table after an accepted order: a command naming channel x writes that record alone, "only ASSTP and AESTP, which name
+-- none, reach several"; reads change nothing; "LOC lets drives run on"; "ERRC clears all error flags, ERRCe bit e"
+unfoldable pub changed : List ℕ → Order → List ℕ
+changed t (Go x s) = withMotor t x (started (motorAt t x) (courseOf (motorAt t x) s))
+changed t (Stop x e) = withMotor t x (stopped e (motorAt t x))
+changed t (StopAll e) = withMotors t (stopped e)
+changed t (ChangeSpeed x v) = withMotor t x (speedChanged (motorAt t x) v)
+changed t (Set x s) = withMotor t x (withSetting (motorAt t x) s)
+changed t (Ask x q) = t
+changed t Local = withMode t 0
+changed t Remote = withMode t 1
+changed t (AllReply on) = withAllReply t (cond on 1 0)
+changed t AskAllReply = t
+changed t AskFlags = t
+changed t AskError = t
+changed t ClearErrors = withErrors t 0
+changed t (ClearError e) = withErrors t (withoutBit e (errors t))
+
+-- "Numbers 1 to 4 set error flag bits 0 to 3 in turn and change nothing else in the table"
+unfoldable pub flagged : List ℕ → Verdict → List ℕ
+flagged t Done = t
+flagged t NoForm = withErrors t (withBit 0 (errors t))
+flagged t Busy = withErrors t (withBit 1 (errors t))
+flagged t OutOfRange = withErrors t (withBit 2 (errors t))
+flagged t LocalMode = withErrors t (withBit 3 (errors t))
+flagged t Disabled = withErrors t (withBit 3 (errors t))
+flagged t SwitchAhead = withErrors t (withBit 3 (errors t))
+flagged t NoRoom = withErrors t (withBit 3 (errors t))
+flagged t NotDriving = withErrors t (withBit 3 (errors t))
+flagged t WrongSize = t
+flagged t NotSound = t

@@ -1,0 +1,121 @@
+-- Document 01, "Numbers handed back": which verdict an order gets on a sound table. "Order: .. local mode, value, busy, target
+-- out of range .., the other causes of 4."
+use Prim.Native.Nat.{ℕ, _+_}
+use mathlib.Core.List.{List}
+use mathlib.Core.Bool.{Bool, true, false, _&&_, not, cond}
+use lib.Dec.{eqb, leb}
+use Rattle.digits.specs.Places.{origin, moved, cw, ccw}
+use Rattle.motor.specs.declared.Motor.{Motor}
+use Rattle.motor.specs.declared.Course.{Course}
+use Rattle.motor.specs.declared.Course.the-variants.{Along}
+use Rattle.motor.specs.declared.Verdict.{Verdict}
+use Rattle.motor.specs.declared.Verdict.the-variants.{Done, Busy, OutOfRange, LocalMode}
+use Rattle.motor.specs.Sound.{isSpeed, driving}
+use Rattle.motor.specs.Drives.{courseTo, judgeStart, judgeSpeedChange}
+use Rattle.line.specs.declared.Written.{Written}
+use Rattle.line.specs.declared.Four.{Four}
+use Rattle.line.specs.declared.Start.{Start}
+use Rattle.line.specs.declared.Start.the-variants.{Abs, Rel, Scan, Jog}
+use Rattle.line.specs.declared.Setting.{Setting}
+use Rattle.line.specs.declared.Setting.the-variants.{Preset, SetCwLimit, SetCcwLimit, Select, SetSpeed, SetSwitches, SetMotor}
+use Rattle.line.specs.declared.Order.{Order}
+use Rattle.line.specs.declared.Order.the-variants.{Go, Stop, StopAll, ChangeSpeed, Set, Ask, Local, Remote, AllReply, AskAllReply, AskFlags, AskError, ClearErrors, ClearError}
+use Rattle.table.specs.Layout.{mode, motorAt}
+
+-- "Reads, the four stops, LOC, REM and the ERR family are taken in both modes; the rest need remote mode."
+unfoldable pub needsRemote : Order → Bool
+needsRemote (Go x s) = true
+needsRemote (Stop x e) = false
+needsRemote (StopAll e) = false
+needsRemote (ChangeSpeed x v) = true
+needsRemote (Set x s) = true
+needsRemote (Ask x q) = false
+needsRemote Local = false
+needsRemote Remote = false
+needsRemote (AllReply on) = true
+needsRemote AskAllReply = false
+needsRemote AskFlags = false
+needsRemote AskError = false
+needsRemote ClearErrors = false
+needsRemote (ClearError e) = false
+
+-- "±d: .. its range the positions' range, REL's too"
+abbrev pub signedInRange : Written → Bool
+signedInRange w = leb (w .digits) 2147483647
+
+-- "D, Y and y are 0 or 1"; the digits of 0yyy too, its 0 being 0 already
+abbrev pub binaryDigits : Four → Bool
+binaryDigits q = leb (q .a) 1 && leb (q .b) 1 && leb (q .c) 1 && leb (q .d) 1
+
+-- "SETMT digits A (0, 1), B (0, 1), C (0), D (0..2)"
+abbrev pub setmtInRange : Four → Bool
+setmtInRange q = leb (q .a) 1 && leb (q .b) 1 && eqb (q .c) 0 && leb (q .d) 2
+
+abbrev pub startInRange : Start → Bool
+startInRange (Abs w) = signedInRange w
+startInRange (Rel w) = signedInRange w
+startInRange (Scan going) = true
+startInRange (Jog going) = true
+
+abbrev pub settingInRange : Setting → Bool
+settingInRange (Preset w) = signedInRange w
+settingInRange (SetCwLimit w) = signedInRange w
+settingInRange (SetCcwLimit w) = signedInRange w
+settingInRange (Select k) = true
+settingInRange (SetSpeed k v) = isSpeed v
+settingInRange (SetSwitches q r) = binaryDigits q && binaryDigits r
+settingInRange (SetMotor q) = setmtInRange q
+
+-- the value that an order carries is in its range; "ERRCe bit e, 0 to 3"
+unfoldable pub valueInRange : Order → Bool
+valueInRange (Go x s) = startInRange s
+valueInRange (Stop x e) = true
+valueInRange (StopAll e) = true
+valueInRange (ChangeSpeed x v) = isSpeed v
+valueInRange (Set x s) = settingInRange s
+valueInRange (Ask x q) = true
+valueInRange Local = true
+valueInRange Remote = true
+valueInRange (AllReply on) = true
+valueInRange AskAllReply = true
+valueInRange AskFlags = true
+valueInRange AskError = true
+valueInRange ClearErrors = true
+valueInRange (ClearError e) = leb e 3
+
+-- a sign as a direction: + is CW; and the place that ±d names
+abbrev pub directionOf : Written → ℕ
+directionOf w = cond (w .minus) ccw cw
+
+abbrev pub placeWritten : Written → ℕ
+placeWritten w = moved (directionOf w) origin (w .digits)
+
+-- where a start wants to go: ABS to the place named, "REL's target is the position plus d", "JOG is REL by +1 or -1"
+abbrev pub courseOf : Motor → Start → Course
+courseOf m (Abs w) = courseTo m (directionOf w) origin (w .digits)
+courseOf m (Rel w) = courseTo m (directionOf w) (m .place) (w .digits)
+courseOf m (Scan going) = Along going
+courseOf m (Jog going) = courseTo m going (m .place) 1
+
+-- what is left to judge once mode and value are right: busy, and the causes that lie in the motor
+unfoldable pub judgeMotor : List ℕ → Order → Verdict
+judgeMotor t (Go x s) = judgeStart (motorAt t x) (courseOf (motorAt t x) s)
+judgeMotor t (Stop x e) = Done
+judgeMotor t (StopAll e) = Done
+judgeMotor t (ChangeSpeed x v) = judgeSpeedChange (motorAt t x)
+judgeMotor t (Set x s) = cond (driving (motorAt t x)) Busy Done
+judgeMotor t (Ask x q) = Done
+judgeMotor t Local = Done
+judgeMotor t Remote = Done
+judgeMotor t (AllReply on) = Done
+judgeMotor t AskAllReply = Done
+judgeMotor t AskFlags = Done
+judgeMotor t AskError = Done
+judgeMotor t ClearErrors = Done
+judgeMotor t (ClearError e) = Done
+
+unfoldable pub judge : List ℕ → Order → Verdict
+judge t o =
+    cond (needsRemote o && eqb (mode t) 0) LocalMode
+    (cond (not (valueInRange o)) OutOfRange
+    (judgeMotor t o))

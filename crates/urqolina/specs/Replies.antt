@@ -1,0 +1,124 @@
+-- Document 01, "Numbers handed back": what is answered.
+use Prim.Native.Nat.{ℕ, _+_, _*_}
+use mathlib.Core.List.{List, [], _∷_, _++_}
+use mathlib.Core.Bool.{Bool, true, false, _&&_, not, cond}
+use lib.Dec.{eqb}
+use Rattle.digits.specs.Words.{bit, isSet}
+use Rattle.digits.specs.Text.{bytes, decimal, signedDecimal, hexDigit, hexByte}
+use Rattle.motor.specs.declared.Motor.{Motor}
+use Rattle.motor.specs.declared.Verdict.{Verdict}
+use Rattle.motor.specs.declared.Verdict.the-variants.{Done, NoForm, Busy, OutOfRange, LocalMode, Disabled, SwitchAhead, NoRoom, NotDriving, WrongSize, NotSound}
+use Rattle.motor.specs.Switches.{active}
+use Rattle.motor.specs.Sound.{driving}
+use Rattle.motor.specs.Drives.{speedNumbered}
+use Rattle.line.specs.declared.Question.{Question}
+use Rattle.line.specs.declared.Question.the-variants.{AskPosition, AskCwLimit, AskCcwLimit, AskSelected, AskSpeed, AskSwitches, AskMotor, AskStatus}
+use Rattle.line.specs.declared.Order.{Order}
+use Rattle.line.specs.declared.Order.the-variants.{Go, Stop, StopAll, ChangeSpeed, Set, Ask, Local, Remote, AllReply, AskAllReply, AskFlags, AskError, ClearErrors, ClearError}
+use Rattle.table.specs.Layout.{mode, allReply, errors, motorAt}
+
+-- the text for each number; 5 and 6 have none
+unfoldable pub textOf : Verdict → List ℕ
+textOf Done = bytes "OK"
+textOf NoForm = bytes "COMMAND ERROR"
+textOf Busy = bytes "MCC06 BUSY ERROR"
+textOf OutOfRange = bytes "PARAMETER ERROR"
+textOf LocalMode = bytes "NG"
+textOf Disabled = bytes "NG"
+textOf SwitchAhead = bytes "NG"
+textOf NoRoom = bytes "NG"
+textOf NotDriving = bytes "NG"
+textOf WrongSize = []
+textOf NotSound = []
+
+-- "positions and limits, a sign (+ for 0) and at least 7 digits; speeds, at least 6"
+abbrev pub positionText : ℕ → List ℕ
+positionText p = signedDecimal 7 p
+
+abbrev pub speedText : ℕ → List ℕ
+speedText v = decimal 6 v
+
+-- "`SPD?` HSPD, MSPD or LSPD"
+unfoldable pub selectedText : ℕ → List ℕ
+selectedText k = cond (eqb k 0) (bytes "LSPD") (cond (eqb k 1) (bytes "MSPD") (bytes "HSPD"))
+
+-- `SETLS?` DYYY0yyy and `SETMT?` ABCD, a digit each (000)
+abbrev pub digitByte : ℕ → ℕ
+digitByte n = 48 + n
+
+unfoldable pub switchesText : ℕ → List ℕ
+switchesText n =
+    digitByte (bit 7 n) ∷ digitByte (bit 6 n) ∷ digitByte (bit 5 n) ∷ digitByte (bit 4 n)
+    ∷ digitByte (bit 3 n) ∷ digitByte (bit 2 n) ∷ digitByte (bit 1 n) ∷ digitByte (bit 0 n) ∷ []
+
+unfoldable pub motorText : Motor → List ℕ
+motorText m =
+    digitByte (m .setup .a) ∷ digitByte (m .setup .b) ∷ digitByte (m .setup .c) ∷ digitByte (m .setup .d) ∷ []
+
+-- "`STSx?`: R or L; x; P, N or S; one hex digit V; two hex digits HH; position."
+abbrev pub flagIf : Bool → ℕ → ℕ
+flagIf test n = cond test n 0
+
+-- "V: bit 0 CW, 1 CCW, 2 HP active (enabled or not), bit 3 set when stopped with B = 0"
+unfoldable pub statusV : Motor → ℕ
+statusV m =
+    flagIf (active 0 (m .wiring)) 1 + flagIf (active 1 (m .wiring)) 2 + flagIf (active 2 (m .wiring)) 4
+    + flagIf (not (driving m) && eqb (m .setup .b) 0) 8
+
+-- "HH: the end flags, or 03 while driving (000)"
+unfoldable pub statusHH : Motor → ℕ
+statusHH m = cond (driving m) 3 (m .ended)
+
+-- R remote, L local; P driving CW, N driving CCW, S stopped
+unfoldable pub modeLetter : ℕ → ℕ
+modeLetter k = cond (eqb k 0) 76 82
+
+unfoldable pub goingLetter : ℕ → ℕ
+goingLetter g = cond (eqb g 0) 83 (cond (eqb g 1) 80 78)
+
+unfoldable pub statusText : ℕ → ℕ → Motor → List ℕ
+statusText k x m =
+    modeLetter k ∷ hexDigit x ∷ goingLetter (m .drive .going) ∷ hexDigit (statusV m)
+    ∷ (hexByte (statusHH m) ++ positionText (m .place))
+
+-- what is answered to a question about channel x
+unfoldable pub questionText : List ℕ → ℕ → Question → List ℕ
+questionText t x AskPosition = positionText (motorAt t x .place)
+questionText t x AskCwLimit = positionText (motorAt t x .limits .cw)
+questionText t x AskCcwLimit = positionText (motorAt t x .limits .ccw)
+questionText t x AskSelected = selectedText (motorAt t x .speeds .selected)
+questionText t x (AskSpeed k) = speedText (speedNumbered k (motorAt t x .speeds))
+questionText t x AskSwitches = switchesText (motorAt t x .wiring .setls)
+questionText t x AskMotor = motorText (motorAt t x)
+questionText t x AskStatus = statusText (mode t) x (motorAt t x)
+
+-- "`ERR?` the lowest error's text (bit 3 is OTHER ERROR) or NO ERROR"
+unfoldable pub errorText : ℕ → List ℕ
+errorText e =
+    cond (isSet 0 e) (bytes "COMMAND ERROR")
+    (cond (isSet 1 e) (bytes "MCC06 BUSY ERROR")
+    (cond (isSet 2 e) (bytes "PARAMETER ERROR")
+    (cond (isSet 3 e) (bytes "OTHER ERROR")
+    (bytes "NO ERROR"))))
+
+-- "Other commands, and numbers 1 to 4, write their text if all-reply is on after the command, else nothing"
+unfoldable pub echo : List ℕ → Verdict → List ℕ
+echo t v = cond (eqb (allReply t) 1) (textOf v) []
+
+-- the answer to an accepted order, on the table after it: "A read's reply is always written"; "`ERRF?` two hex digits";
+-- "`ALL_REP?` EN or DS"
+unfoldable pub answer : List ℕ → Order → List ℕ
+answer t (Go x s) = echo t Done
+answer t (Stop x e) = echo t Done
+answer t (StopAll e) = echo t Done
+answer t (ChangeSpeed x v) = echo t Done
+answer t (Set x s) = echo t Done
+answer t (Ask x q) = questionText t x q
+answer t Local = echo t Done
+answer t Remote = echo t Done
+answer t (AllReply on) = echo t Done
+answer t AskAllReply = cond (eqb (allReply t) 1) (bytes "EN") (bytes "DS")
+answer t AskFlags = hexByte (errors t)
+answer t AskError = errorText (errors t)
+answer t ClearErrors = echo t Done
+answer t (ClearError e) = echo t Done
