@@ -4,3 +4,4 @@ pub mod Switches
 pub mod Sound
 pub mod Drives
 pub mod Ticks
+pub mod Computing

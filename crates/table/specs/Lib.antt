@@ -1,2 +1,3 @@
 pub mod Layout
 pub mod Sound
+pub mod Computing

@@ -2,3 +2,4 @@ pub mod Judging
 pub mod Changing
 pub mod Replies
 pub mod Calls
+pub mod Computing

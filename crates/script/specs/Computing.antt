@@ -1,0 +1,9 @@
+-- To compute bench's script language down to numbers and bytes, a statement says `unfolding computing-script`: it opens every
+-- definition that is otherwise shut. It says nothing itself.
+use Rattle.urqolina.specs.Computing.{computing-urqolina}
+use Rattle.script.specs.Jobs.{linesOf, touchOf, waitOf, lettered, jobOf}
+use Rattle.script.specs.Output.{commandText, sent, touched, netsAfter, waited, netText, waitedText, ticked, printed, bench}
+
+unfoldable pub computing-script : Unit {0}
+unfolding computing-urqolina linesOf touchOf waitOf lettered jobOf commandText sent touched netsAfter waited netText waitedText ticked printed bench
+computing-script = tt

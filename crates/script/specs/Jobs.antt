@@ -1,0 +1,45 @@
+-- Document 01, "Bench cases": *bench* "reads standard input: `C line`, `S x n` (x as above, contacts 0..7), `T n` (1..10000
+-- ticks, no leading zeros)".
+use Prim.Native.Nat.{ℕ, _-_}
+use mathlib.Core.List.{List, [], _∷_, _++_}
+use mathlib.Core.Bool.{Bool, true, false, _&&_, not, cond}
+use lib.ListN.{length, getD}
+use lib.Dec.{eqb, leb}
+use Rattle.digits.specs.Text.{isHex, hexValue, digitsAtFront, valueOf}
+use Rattle.script.specs.declared.Job.{Job}
+use Rattle.script.specs.declared.Job.the-variants.{Send, Touch, Wait, Unknown}
+
+-- The lines of an input. A byte joins the first of the lines after it; a line feed begins a new one. So a last line without
+-- a line feed counts if it has a byte, and an empty input has no line.
+abbrev pub joined : ℕ → List (List ℕ) → List (List ℕ)
+joined b [] = (b ∷ []) ∷ []
+joined b (l ∷ ls) = (b ∷ l) ∷ ls
+
+unfoldable pub linesOf : List ℕ → List (List ℕ)
+linesOf [] = []
+linesOf (b ∷ s) = cond (eqb b 10) ([] ∷ linesOf s) (joined b (linesOf s))
+
+abbrev pub jobIf : Bool → Job → Job
+jobIf test j = cond test j Unknown
+
+-- after `S `: x, a blank, and one digit 0 to 7
+unfoldable pub touchOf : List ℕ → Job
+touchOf s =
+    jobIf (eqb (length s) 3 && isHex (getD s 0 0) && eqb (getD s 1 0) 32 && (leb 48 (getD s 2 0) && leb (getD s 2 0) 55))
+    (Touch (hexValue (getD s 0 0)) (getD s 2 0 - 48))
+
+-- after `T `: 1 to 10000, and nothing but its digits
+unfoldable pub waitOf : List ℕ → Job
+waitOf s =
+    jobIf (leb 1 (length s) && leb (length s) 5 && eqb (digitsAtFront s) (length s)
+    && (not (eqb (getD s 0 0) 48) && leb (valueOf s) 10000))
+    (Wait (valueOf s))
+
+-- a letter, one blank, and the rest; "Any other line"
+unfoldable pub lettered : ℕ → List ℕ → Job
+lettered k s = cond (eqb k 67) Send (cond (eqb k 83) (touchOf s) (cond (eqb k 84) (waitOf s) Unknown))
+
+unfoldable pub jobOf : List ℕ → Job
+jobOf [] = Unknown
+jobOf (k ∷ []) = Unknown
+jobOf (k ∷ b ∷ s) = jobIf (eqb b 32) (lettered k s)

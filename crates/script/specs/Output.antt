@@ -1,0 +1,96 @@
+-- Document 01, "Bench cases": what *bench* prints. "It prints, per line, the number, then for C a space and the reply or `-`;
+-- for T, per channel with a nonzero net, a space, x, colon, signed net. Any other line prints `?`."
+use Prim.Native.Nat.{ℕ, zero, suc, _+_, _*_, _-_, _/_, _%_}
+use mathlib.Core.List.{List, [], _∷_, _++_, map}
+use mathlib.Core.Bool.{Bool, true, false, cond}
+use lib.ListN.{length, take, drop, getD, replicate}
+use lib.Dec.{eqb}
+use Rattle.digits.specs.Bytes.{part, gather}
+use Rattle.digits.specs.Words.{word}
+use Rattle.digits.specs.Places.{origin, placeOf}
+use Rattle.digits.specs.Text.{bytes, decimal, signedDecimal, hexDigit}
+use Rattle.table.specs.Layout.{tableSize}
+use Rattle.urqolina.specs.Calls.{CommandAfter, TableAfter, TickAfter, freshCall, commandCall, readingCall, tickCall}
+use Rattle.script.specs.declared.Job.{Job}
+use Rattle.script.specs.declared.Job.the-variants.{Send, Touch, Wait, Unknown}
+use Rattle.script.specs.Jobs.{linesOf, jobOf}
+
+-- what a line leaves and prints
+pub record Printed : Type 0 where
+  pub table : List ℕ
+  pub text : List ℕ
+
+-- "Numbers that a program prints itself (not replies) are decimal without leading zeros; signed ones carry a sign, + for 0"
+abbrev pub plainText : ℕ → List ℕ
+plainText n = decimal 1 n
+
+abbrev pub signedText : ℕ → List ℕ
+signedText p = signedDecimal 1 p
+
+-- C: the number, a blank, and the reply or `-`
+abbrev pub replyText : List ℕ → List ℕ
+replyText [] = bytes "-"
+replyText (b ∷ s) = b ∷ s
+
+unfoldable pub commandText : CommandAfter → List ℕ
+commandText r = plainText (r .result % 256) ++ (32 ∷ replyText (take (r .result / 256) (r .reply)))
+
+unfoldable pub sent : List ℕ → List ℕ → Printed
+sent t line =
+    let r = commandCall t line (replicate 32 0) in
+    record { table = r .table; text = commandText r }
+
+-- S: the number
+unfoldable pub touched : List ℕ → ℕ → ℕ → Printed
+touched t c n =
+    let r = readingCall t c n in
+    record { table = r .table; text = plainText (r .result) }
+
+-- T: the number of the last tick, and the nets over all of them, kept as places: a channel with no pulses stands at the
+-- origin
+pub record Waited : Type 0 where
+  pub result : ℕ
+  pub table : List ℕ
+  pub nets : List ℕ
+
+unfoldable pub netsAfter : List ℕ → List ℕ → List ℕ
+netsAfter [] pulses = []
+netsAfter (n ∷ ns) pulses = (n + placeOf (word (take 4 pulses)) - origin) ∷ netsAfter ns (drop 4 pulses)
+
+abbrev pub tickOf : Waited → Waited
+tickOf w =
+    let r = tickCall (w .table) (replicate 64 0) in
+    record { result = r .result; table = r .table; nets = netsAfter (w .nets) (r .pulses) }
+
+unfoldable pub waited : ℕ → Waited → Waited
+waited zero w = w
+waited (suc n) w = waited n (tickOf w)
+
+unfoldable pub netText : List ℕ → ℕ → List ℕ
+netText nets c = cond (eqb (getD nets c origin) origin) [] (32 ∷ hexDigit c ∷ 58 ∷ signedText (getD nets c origin))
+
+unfoldable pub waitedText : Waited → List ℕ
+waitedText w = plainText (w .result) ++ gather (netText (w .nets)) 16
+
+unfoldable pub ticked : List ℕ → ℕ → Printed
+ticked t n =
+    let w = waited n (record { result = 0; table = t; nets = replicate 16 origin }) in
+    record { table = w .table; text = waitedText w }
+
+-- one line of the script
+abbrev pub jobDone : List ℕ → List ℕ → Job → Printed
+jobDone t line Send = sent t (drop 2 line)
+jobDone t line (Touch c n) = touched t c n
+jobDone t line (Wait n) = ticked t n
+jobDone t line Unknown = record { table = t; text = bytes "?" }
+
+-- all of them, each printed with a line feed
+unfoldable pub printed : List ℕ → List (List ℕ) → List ℕ
+printed t [] = []
+printed t (l ∷ ls) =
+    let r = jobDone t l (jobOf l) in
+    r .text ++ (10 ∷ printed (r .table) ls)
+
+-- "*bench* makes one fresh table and reads standard input": what it writes for an input
+unfoldable pub bench : List ℕ → List ℕ
+bench input = printed (freshCall (replicate tableSize 0) .table) (linesOf input)

@@ -1,0 +1,10 @@
+// The script language of bench: what a line of a script asks for. What bench prints for a whole script is said in specs/.
+
+// A line of a script: a command line, which stands after its first two bytes; a switch reading of a channel; a number of
+// ticks; or anything else.
+pub enum Job {
+    Send,
+    Touch(u8, u8),
+    Wait(u32),
+    Unknown,
+}
