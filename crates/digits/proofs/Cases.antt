@@ -4,7 +4,7 @@ use mathlib.Core.List.{List, [], _∷_, _++_}
 use mathlib.Core.Bool.{Bool, true, false, _&&_, not}
 use Prim.Native.Nat.{ℕ, _+_}
 use lib.Dec.{eqb}
-use Rattle.digits.specs.Bytes.{part, put, gather, filled}
+use Rattle.digits.specs.Bytes.{part, put, pieces, all, each, gather, allZero}
 use Rattle.digits.specs.Words.{word, wordBytes, withBit, withoutBit}
 use Rattle.digits.specs.Places.{origin, placeOf, wordOf, countOf, cw, ccw}
 use Rattle.digits.specs.Text.{bytes, same, decimal, digitCount, powersUpTo, lastDigits, signedDecimal, hexDigit, hexByte, hexValue, isHex, valueFrom, valueOf, digitsAtFront}
@@ -39,9 +39,11 @@ reads = (refl, refl, refl, refl, refl, refl)
 -- what is written stands where it was put, and the rest as it was
 buffers :
     (put (1 ∷ 2 ∷ 3 ∷ 4 ∷ []) 1 (9 ∷ 8 ∷ []) ≡ 1 ∷ 9 ∷ 8 ∷ 4 ∷ []) × (part (1 ∷ 2 ∷ 3 ∷ 4 ∷ []) 2 1 ≡ 3 ∷ [])
-    × (filled (1 ∷ 2 ∷ 3 ∷ 4 ∷ []) 1 1 (λ c. c ∷ []) 2 ≡ 1 ∷ 0 ∷ 1 ∷ 4 ∷ [])
-unfolding put part filled gather
-buffers = (refl, refl, refl)
+    × (pieces 2 2 (1 ∷ 2 ∷ 3 ∷ 4 ∷ 5 ∷ []) ≡ (1 ∷ 2 ∷ []) ∷ (3 ∷ 4 ∷ []) ∷ [])
+    × (each (λ p. 9 ∷ p) ((1 ∷ []) ∷ [] ∷ []) ≡ 9 ∷ 1 ∷ 9 ∷ []) × (gather (λ c. c ∷ []) 3 ≡ 0 ∷ 1 ∷ 2 ∷ [])
+    × (all allZero ((0 ∷ []) ∷ (0 ∷ 1 ∷ []) ∷ []) ≡ false) × (all allZero ((0 ∷ []) ∷ (0 ∷ 0 ∷ []) ∷ []) ≡ true)
+unfolding put part pieces each gather all allZero
+buffers = (refl, refl, refl, refl, refl, refl, refl)
 
 -- a bit that is set stays set, one that is clear stays clear
 bits : (withBit 3 0 ≡ 8) × (withBit 3 9 ≡ 9) × (withoutBit 0 9 ≡ 8) × (withoutBit 1 9 ≡ 9)

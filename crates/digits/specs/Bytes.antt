@@ -1,5 +1,5 @@
 -- Buffers: a lent buffer is the list of its bytes, and these few words say what is read from it and written to it.
-use Prim.Native.Nat.{ℕ, zero, suc, _+_, _*_}
+use Prim.Native.Nat.{ℕ, zero, suc, _+_}
 use mathlib.Core.List.{List, [], _∷_, _++_}
 use mathlib.Core.Bool.{Bool, true, _&&_}
 use lib.ListN.{length, take, drop}
@@ -13,19 +13,25 @@ part t at n = take n (drop at t)
 unfoldable pub put : List ℕ → ℕ → List ℕ → List ℕ
 put t at b = take at t ++ (b ++ drop (at + length b) t)
 
+-- the first k pieces of w bytes each, one after the other
+unfoldable pub pieces : ℕ → ℕ → List ℕ → List (List ℕ)
+pieces w zero s = []
+pieces w (suc k) s = take w s ∷ pieces w k (drop w s)
+
+-- the test passes at every piece
+unfoldable pub all : (List ℕ → Bool) → List (List ℕ) → Bool
+all f [] = true
+all f (p ∷ ps) = f p && all f ps
+
+-- what f makes of each piece, one after the other
+unfoldable pub each : (List ℕ → List ℕ) → List (List ℕ) → List ℕ
+each f [] = []
+each f (p ∷ ps) = f p ++ each f ps
+
 -- f 0, f 1, .. one after the other, k of them
 unfoldable pub gather : (ℕ → List ℕ) → ℕ → List ℕ
 gather f zero = []
 gather f (suc k) = gather f k ++ f k
-
--- the buffer with k pieces of w bytes each written from `at` on, the piece numbered c being f c
-unfoldable pub filled : List ℕ → ℕ → ℕ → (ℕ → List ℕ) → ℕ → List ℕ
-filled t at w f k = take at t ++ (gather f k ++ drop (at + w * k) t)
-
--- the test passes at every number below k
-unfoldable pub allBelow : (ℕ → Bool) → ℕ → Bool
-allBelow f zero = true
-allBelow f (suc k) = allBelow f k && f k
 
 -- every byte is zero
 unfoldable pub allZero : List ℕ → Bool

@@ -1,8 +1,8 @@
 -- Document 01, "The table: 1,088 bytes".
 use Prim.Native.Nat.{ℕ, _+_, _*_}
 use mathlib.Core.List.{List, [], _∷_, _++_}
-use lib.ListN.{replicate}
-use Rattle.digits.specs.Bytes.{part, put, gather, filled}
+use lib.ListN.{take, drop, replicate}
+use Rattle.digits.specs.Bytes.{part, put, pieces, each, gather}
 use Rattle.digits.specs.Words.{word}
 use Rattle.motor.specs.declared.Motor.{Motor}
 use Rattle.motor.specs.Record.{motorOf, recordOf, freshMotor}
@@ -43,9 +43,13 @@ motorAt t c = motorOf (recordAt t c)
 unfoldable pub withMotor : List ℕ → ℕ → Motor → List ℕ
 withMotor t c m = put t (recordStart c) (recordOf m)
 
+-- "A head of 64 bytes, then sixteen records of 64"
+abbrev pub records : List ℕ → List (List ℕ)
+records t = pieces 64 16 (drop 64 t)
+
 -- the table with each of the sixteen motors changed
 unfoldable pub withMotors : List ℕ → (Motor → Motor) → List ℕ
-withMotors t f = filled t 64 64 (λ c. recordOf (f (motorAt t c))) 16
+withMotors t f = take 64 t ++ each (λ r. recordOf (f (motorOf r))) (records t)
 
 -- "Fresh: local, all-reply off, no error flags", and sixteen fresh motors
 unfoldable pub freshTable : List ℕ

@@ -3,24 +3,7 @@
 use mathlib.Core.Path.{_≡_, refl}
 use mathlib.Core.List.{List, [], _∷_, map}
 use Prim.Native.Nat.{ℕ}
-use Rattle.digits.specs.Bytes.{part, put, gather, filled, allBelow, allZero}
-use Rattle.digits.specs.Words.{word, wordBytes, withBit, withoutBit}
-use Rattle.digits.specs.Places.{placeOf, wordOf, countOf}
-use Rattle.digits.specs.Text.{bytes, same, digitsAtFront, valueFrom, lastDigits, powersUpTo, digitCount, decimal, signedDecimal, hexDigit, hexByte, hexValue}
-use Rattle.motor.specs.Numbers.{numberOf}
-use Rattle.motor.specs.Record.{motorOf, recordOf, freshMotor}
-use Rattle.motor.specs.Switches.{active, blocked, edge, room}
-use Rattle.motor.specs.Sound.{limitsInRange, speedsInRange, wiringInRange, setupInRange, driveInRange, inRange, atRest, aimRight, underWay, soundMotor, soundRecord}
-use Rattle.motor.specs.Drives.{speedNumbered, courseTo, towards, hindrance, judgeStart, started, stopped, speedChanged, switchRead}
-use Rattle.motor.specs.Ticks.{tickSpeed, due, rest, distanceLeft, given, reached, usedUp, drivenOn, tickMotor, tickCount}
-use Rattle.line.specs.Reading.{readChannel, readNumber, readSigned, readDigit, readQuestion, readFour, readZeroThree, readFields}
-use Rattle.line.specs.Forms.{asRow, forms, firstForm, orderOf}
-use Rattle.table.specs.Layout.{motorAt, withMotor, withMotors, freshTable}
-use Rattle.table.specs.Sound.{soundHead, soundTable}
-use Rattle.urqolina.specs.Judging.{needsRemote, valueInRange, judgeMotor, judge}
-use Rattle.urqolina.specs.Changing.{withSetting, changed, flagged}
-use Rattle.urqolina.specs.Replies.{textOf, selectedText, switchesText, motorText, statusV, statusHH, modeLetter, goingLetter, statusText, questionText, errorText, echo, answer}
-use Rattle.urqolina.specs.Calls.{freshCall, refused, obeyed, taken, commandCall, readingCall, countBytes, tickCall}
+use Rattle.urqolina.specs.Computing.{computing-urqolina}
 use Rattle.urqolina.proofs.Steps.{Step, says, reads, ticks, holds, fresh, seen, stated}
 
 pub cases : List (List Step)
@@ -55,5 +38,5 @@ cases =
     ∷ []
 
 marked : map (seen fresh) cases ≡ map (λ c. map stated c) cases
-unfolding cases seen freshCall commandCall tickCall refused obeyed taken countBytes judge judgeMotor needsRemote valueInRange changed flagged withSetting answer echo textOf questionText statusText statusV statusHH modeLetter goingLetter selectedText switchesText motorText errorText soundTable soundHead freshTable motorAt withMotor withMotors orderOf firstForm forms asRow readFields readChannel readNumber readSigned readDigit readQuestion readFour readZeroThree tickMotor tickCount drivenOn reached usedUp given distanceLeft due rest tickSpeed started stopped speedChanged judgeStart hindrance towards courseTo speedNumbered soundRecord soundMotor underWay aimRight atRest inRange driveInRange setupInRange wiringInRange speedsInRange limitsInRange room edge blocked active motorOf recordOf freshMotor numberOf bytes same digitsAtFront valueFrom lastDigits powersUpTo digitCount decimal signedDecimal hexDigit hexByte hexValue placeOf wordOf countOf word wordBytes withBit withoutBit part put gather filled allBelow allZero
+unfolding computing-urqolina cases seen
 marked = refl

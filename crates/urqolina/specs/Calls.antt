@@ -5,19 +5,20 @@ use mathlib.Core.List.{List, [], _∷_, _++_}
 use mathlib.Core.Bool.{Bool, true, false, _&&_, not, cond}
 use lib.ListN.{length}
 use lib.Dec.{eqb, leb}
-use Rattle.digits.specs.Bytes.{put, gather}
+use Rattle.digits.specs.Bytes.{put, each}
 use Rattle.digits.specs.Words.{wordBytes}
 use Rattle.motor.specs.declared.Verdict.{Verdict}
 use Rattle.motor.specs.declared.Verdict.the-variants.{Done, NoForm, WrongSize, NotSound}
 use Rattle.motor.specs.declared.Motor.{Motor}
 use Rattle.motor.specs.Numbers.{numberOf}
+use Rattle.motor.specs.Record.{motorOf}
 use Rattle.motor.specs.Drives.{switchRead}
 use Rattle.motor.specs.Ticks.{tickMotor, tickCount}
 use Rattle.line.specs.declared.Order.{Order}
 use Rattle.line.specs.declared.Parsed.{Parsed}
 use Rattle.line.specs.declared.Parsed.the-variants.{Is, Nothing}
 use Rattle.line.specs.Forms.{orderOf}
-use Rattle.table.specs.Layout.{tableSize, motorAt, withMotor, withMotors, freshTable}
+use Rattle.table.specs.Layout.{tableSize, records, motorAt, withMotor, withMotors, freshTable}
 use Rattle.table.specs.Sound.{soundTable}
 use Rattle.urqolina.specs.Judging.{judge}
 use Rattle.urqolina.specs.Changing.{changed, flagged}
@@ -88,12 +89,12 @@ pub record TickAfter : Type 0 where
   pub pulses : List ℕ
 
 -- One tick of every channel. "The pulse buffer is 64 bytes: sixteen signed 32-bit counts"
-unfoldable pub countBytes : List ℕ → ℕ → List ℕ
-countBytes t c = wordBytes 4 (tickCount (motorAt t c))
+abbrev pub counts : List ℕ → List ℕ
+counts t = each (λ r. wordBytes 4 (tickCount (motorOf r))) (records t)
 
 unfoldable pub tickCall : List ℕ → List ℕ → TickAfter
 tickCall t pulses =
     let v = refusal (eqb (length t) tableSize && eqb (length pulses) 64) t in
     cond (accepted v)
-    (record { result = numberOf Done; table = withMotors t (λ m. tickMotor m .motor); pulses = gather (countBytes t) 16 })
+    (record { result = numberOf Done; table = withMotors t (λ m. tickMotor m .motor); pulses = counts t })
     (record { result = numberOf v; table = t; pulses = pulses })
