@@ -14,7 +14,8 @@ use Rattle.line.specs.declared.Start.the-variants.{Abs, Rel, Scan, Jog}
 use Rattle.line.specs.declared.Setting.the-variants.{Preset, SetCwLimit, SetCcwLimit, Select, SetSpeed, SetSwitches, SetMotor}
 use Rattle.line.specs.declared.Question.the-variants.{AskPosition, AskCwLimit, AskCcwLimit, AskSelected, AskSpeed, AskSwitches, AskMotor, AskStatus}
 use Rattle.line.specs.declared.Order.{Order}
-use Rattle.line.specs.declared.Order.the-variants.{Go, Stop, StopAll, ChangeSpeed, Set, Ask, Local, Remote, AllReply, AskAllReply, AskFlags, AskError, ClearErrors, ClearError}
+use Rattle.line.specs.declared.Order.the-variants.{Go, Stop, StopAll, ChangeSpeed, Set, Ask, Mode, AllReply, AskHead, ClearErrors, ClearError}
+use Rattle.line.specs.declared.HeadQuestion.the-variants.{AskAllReply, AskFlags, AskError}
 use Rattle.line.specs.declared.Parsed.{Parsed}
 use Rattle.line.specs.declared.Parsed.the-variants.{Is, Nothing}
 use Rattle.line.specs.Reading.{readChannel, readNumber, readSigned, readDigit, readQuestion, readFour, readZeroThree, readFields}
@@ -43,7 +44,7 @@ every-form :
     × (map line ("PS?0" ∷ "FL?0" ∷ "BL?0" ∷ "SPD?0" ∷ "SPDH?0" ∷ "SPDM?0" ∷ "SPDL?0" ∷ "SETLS?0" ∷ "SETMT?0" ∷ "STS0?" ∷ [])
     ≡ map (λ q. Is (Ask 0 q)) (AskPosition ∷ AskCwLimit ∷ AskCcwLimit ∷ AskSelected ∷ AskSpeed 2 ∷ AskSpeed 1 ∷ AskSpeed 0 ∷ AskSwitches ∷ AskMotor ∷ AskStatus ∷ []))
     × (map line ("LOC" ∷ "REM" ∷ "ALL_REP EN" ∷ "ALL_REP DS" ∷ "ALL_REP?" ∷ "ERRF?" ∷ "ERR?" ∷ "ERRC" ∷ "ERRC9" ∷ [])
-    ≡ Is Local ∷ Is Remote ∷ Is (AllReply true) ∷ Is (AllReply false) ∷ Is AskAllReply ∷ Is AskFlags ∷ Is AskError ∷ Is ClearErrors ∷ Is (ClearError 9) ∷ [])
+    ≡ Is (Mode 0) ∷ Is (Mode 1) ∷ Is (AllReply 1) ∷ Is (AllReply 0) ∷ Is (AskHead AskAllReply) ∷ Is (AskHead AskFlags) ∷ Is (AskHead AskError) ∷ Is ClearErrors ∷ Is (ClearError 9) ∷ [])
 unfolding line plus minus orderOf firstForm forms asRow readFields readChannel readNumber readSigned readDigit readQuestion readFour readZeroThree bytes same digitsAtFront valueFrom hexValue
 every-form = (refl, refl, refl, refl, refl, refl)
 

@@ -17,7 +17,9 @@ use Rattle.line.specs.declared.Setting.the-variants.{Preset, SetCwLimit,
 use Rattle.line.specs.declared.Question.{Question}
 use Rattle.line.specs.declared.Question.the-variants.{AskPosition, AskCwLimit, AskCcwLimit, AskSelected, AskSpeed, AskSwitches, AskMotor, AskStatus}
 use Rattle.line.specs.declared.Order.{Order}
-use Rattle.line.specs.declared.Order.the-variants.{Go, Stop, StopAll, ChangeSpeed, Set, Ask, Local, Remote, AllReply, AskAllReply, AskFlags, AskError, ClearErrors, ClearError}
+use Rattle.line.specs.declared.Order.the-variants.{Go, Stop, StopAll, ChangeSpeed, Set, Ask, Mode, AllReply, AskHead, ClearErrors, ClearError}
+use Rattle.line.specs.declared.HeadQuestion.{HeadQuestion}
+use Rattle.line.specs.declared.HeadQuestion.the-variants.{AskAllReply, AskFlags, AskError}
 use Rattle.line.specs.declared.Parsed.{Parsed}
 use Rattle.line.specs.declared.Parsed.the-variants.{Is, Nothing}
 use Rattle.line.specs.Reading.{Got, got, absent, Field, channel, signed, number, digit, question, four, zeroThree, noFields, readFields}
@@ -106,13 +108,13 @@ questionRows =
 -- `LOC`, `REM`, `ALL_REP EN`, `ALL_REP DS`, `ALL_REP?`, `ERRF?`, `ERR?`, `ERRC`, `ERRCe` (e one digit).
 abbrev pub headRows : List Row
 headRows =
-    row "LOC" [] (λ f. Local)
-    ∷ row "REM" [] (λ f. Remote)
-    ∷ row "ALL_REP EN" [] (λ f. AllReply true)
-    ∷ row "ALL_REP DS" [] (λ f. AllReply false)
-    ∷ row "ALL_REP?" [] (λ f. AskAllReply)
-    ∷ row "ERRF?" [] (λ f. AskFlags)
-    ∷ row "ERR?" [] (λ f. AskError)
+    row "LOC" [] (λ f. Mode 0)
+    ∷ row "REM" [] (λ f. Mode 1)
+    ∷ row "ALL_REP EN" [] (λ f. AllReply 1)
+    ∷ row "ALL_REP DS" [] (λ f. AllReply 0)
+    ∷ row "ALL_REP?" [] (λ f. AskHead AskAllReply)
+    ∷ row "ERRF?" [] (λ f. AskHead AskFlags)
+    ∷ row "ERR?" [] (λ f. AskHead AskError)
     ∷ row "ERRC" [] (λ f. ClearErrors)
     ∷ row "ERRC" (digit ∷ []) (λ f. ClearError (f .written .digits))
     ∷ []

@@ -54,7 +54,15 @@ pub enum Question {
     AskStatus,
 }
 
-// An order, with the channel that it names first. A stop carries the end flag that it sets.
+// What is asked of the head.
+pub enum HeadQuestion {
+    AskAllReply,
+    AskFlags,
+    AskError,
+}
+
+// An order, with the channel that it names first. A stop carries the end flag that it sets; mode and all-reply carry the
+// byte that the head is to hold: 0 local, 1 remote; 0 off, 1 on.
 pub enum Order {
     Go(u8, Start),
     Stop(u8, u8),
@@ -62,12 +70,9 @@ pub enum Order {
     ChangeSpeed(u8, u64),
     Set(u8, Setting),
     Ask(u8, Question),
-    Local,
-    Remote,
-    AllReply(bool),
-    AskAllReply,
-    AskFlags,
-    AskError,
+    Mode(u8),
+    AllReply(u8),
+    AskHead(HeadQuestion),
     ClearErrors,
     ClearError(u64),
 }

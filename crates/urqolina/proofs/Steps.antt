@@ -4,10 +4,11 @@ use Prim.Native.Nat.{ℕ, _+_, _*_, _-_}
 use Prim.Native.String as S
 use mathlib.Core.List.{List, [], _∷_, _++_}
 use mathlib.Core.Bool.{cond}
-use lib.ListN.{length, drop, replicate}
+use lib.ListN.{length, replicate}
 use lib.Dec.{eqb}
 use Rattle.digits.specs.Bytes.{part, gather}
 use Rattle.digits.specs.Words.{wordBytes}
+use Rattle.digits.specs.Places.{countOf}
 use Rattle.digits.specs.Text.{bytes}
 use Rattle.urqolina.specs.Calls.{freshCall, commandCall, readingCall, tickCall}
 
@@ -16,8 +17,8 @@ pub data Step : Type 0 where
   says : S.String → ℕ → S.String → Step
   -- a switch reading: channel and contacts, and its number
   reads : ℕ → ℕ → ℕ → Step
-  -- an accepted tick: a channel and the CW pulses that it gets; no other channel gets any
-  ticks : ℕ → ℕ → Step
+  -- an accepted tick: a channel, its direction (1 CW, 2 CCW) and the pulses that it gets; no other channel gets any
+  ticks : ℕ → ℕ → ℕ → Step
   -- what stands in the table at an offset
   holds : ℕ → List ℕ → Step
 
@@ -25,7 +26,8 @@ pub data Step : Type 0 where
 abbrev pub lent : ℕ → List ℕ
 lent n = replicate n 0xaa
 
-abbrev pub fresh : List ℕ
+-- the bytes that a fresh call makes
+unfoldable pub fresh : List ℕ
 fresh = freshCall (lent 1088) .table
 
 -- what a step shows: its result, and the whole buffer after it
@@ -33,29 +35,35 @@ pub record Shown : Type 0 where
   pub result : ℕ
   pub buffer : List ℕ
 
-abbrev pub shown : List ℕ → Step → Shown
-shown t (says s n r) = record { result = commandCall t (bytes s) (lent 32) .result; buffer = commandCall t (bytes s) (lent 32) .reply }
-shown t (reads c k n) = record { result = readingCall t c k .result; buffer = [] }
-shown t (ticks c n) = record { result = tickCall t (lent 64) .result; buffer = tickCall t (lent 64) .pulses }
-shown t (holds at b) = record { result = 0; buffer = part t at (length b) }
+-- and the table after it
+pub record After : Type 0 where
+  pub shown : Shown
+  pub table : List ℕ
 
--- the table after a step
-abbrev pub next : List ℕ → Step → List ℕ
-next t (says s n r) = commandCall t (bytes s) (lent 32) .table
-next t (reads c k n) = readingCall t c k .table
-next t (ticks c n) = tickCall t (lent 64) .table
-next t (holds at b) = t
+unfoldable pub after : List ℕ → Step → After
+after t (says s n r) =
+    let a = commandCall t (bytes s) (lent 32) in
+    record { shown = record { result = a .result; buffer = a .reply }; table = a .table }
+after t (reads c k n) =
+    let a = readingCall t c k in
+    record { shown = record { result = a .result; buffer = [] }; table = a .table }
+after t (ticks c g n) =
+    let a = tickCall t (lent 64) in
+    record { shown = record { result = a .result; buffer = a .pulses }; table = a .table }
+after t (holds at b) = record { shown = record { result = 0; buffer = part t at (length b) }; table = t }
 
 unfoldable pub seen : List ℕ → List Step → List Shown
 seen t [] = []
-seen t (s ∷ ss) = shown t s ∷ seen (next t s) ss
+seen t (s ∷ ss) =
+    let a = after t s in
+    a .shown ∷ seen (a .table) ss
 
--- the same as the list states it: a reply of fewer bytes leaves the rest of the buffer
-abbrev pub says-shown : ℕ → List ℕ → Shown
-says-shown n text = record { result = n + 256 * length text; buffer = text ++ lent (32 - length text) }
+-- the same as the list states it: a reply leaves the rest of the buffer as it was
+abbrev pub replied : ℕ → List ℕ → Shown
+replied n text = record { result = n + 256 * length text; buffer = text ++ lent (32 - length text) }
 
-abbrev pub stated : Step → Shown
-stated (says s n r) = says-shown n (bytes r)
+unfoldable pub stated : Step → Shown
+stated (says s n r) = replied n (bytes r)
 stated (reads c k n) = record { result = n; buffer = [] }
-stated (ticks c n) = record { result = 0; buffer = gather (λ k. wordBytes 4 (cond (eqb k c) n 0)) 16 }
+stated (ticks c g n) = record { result = 0; buffer = gather (λ k. wordBytes 4 (cond (eqb k c) (countOf g n) 0)) 16 }
 stated (holds at b) = record { result = 0; buffer = b }

@@ -7,15 +7,15 @@ use Rattle.digits.specs.Words.{withBit, withoutBit}
 use Rattle.motor.specs.declared.Speeds.{Speeds}
 use Rattle.motor.specs.declared.Motor.{Motor}
 use Rattle.motor.specs.declared.Verdict.{Verdict}
-use Rattle.motor.specs.declared.Verdict.the-variants.{Done, NoForm, Busy, OutOfRange, LocalMode, Disabled, SwitchAhead, NoRoom, NotDriving, WrongSize, NotSound}
+use Rattle.motor.specs.Numbers.{numberOf}
 use Rattle.motor.specs.Record.{withPlace, withLimits, withSpeeds, withWiring, withSetup}
 use Rattle.motor.specs.Drives.{started, stopped, speedChanged}
 use Rattle.line.specs.declared.Four.{Four}
 use Rattle.line.specs.declared.Setting.{Setting}
 use Rattle.line.specs.declared.Setting.the-variants.{Preset, SetCwLimit, SetCcwLimit, Select, SetSpeed, SetSwitches, SetMotor}
 use Rattle.line.specs.declared.Order.{Order}
-use Rattle.line.specs.declared.Order.the-variants.{Go, Stop, StopAll, ChangeSpeed, Set, Ask, Local, Remote, AllReply, AskAllReply, AskFlags, AskError, ClearErrors, ClearError}
-use Rattle.table.specs.Layout.{mode, errors, withMode, withAllReply, withErrors, motorAt, withMotor, withMotors}
+use Rattle.line.specs.declared.Order.the-variants.{Go, Stop, StopAll, ChangeSpeed, Set, Ask, Mode, AllReply, AskHead, ClearErrors, ClearError}
+use Rattle.table.specs.Layout.{errors, withMode, withAllReply, withErrors, motorAt, withMotor, withMotors}
 use Rattle.urqolina.specs.Judging.{placeWritten, courseOf}
 
 -- the speeds with the one numbered k replaced: 0 L, 1 M, 2 H
@@ -53,25 +53,12 @@ changed t (StopAll e) = withMotors t (stopped e)
 changed t (ChangeSpeed x v) = withMotor t x (speedChanged (motorAt t x) v)
 changed t (Set x s) = withMotor t x (withSetting (motorAt t x) s)
 changed t (Ask x q) = t
-changed t Local = withMode t 0
-changed t Remote = withMode t 1
-changed t (AllReply on) = withAllReply t (cond on 1 0)
-changed t AskAllReply = t
-changed t AskFlags = t
-changed t AskError = t
+changed t (Mode k) = withMode t k
+changed t (AllReply k) = withAllReply t k
+changed t (AskHead q) = t
 changed t ClearErrors = withErrors t 0
 changed t (ClearError e) = withErrors t (withoutBit e (errors t))
 
 -- "Numbers 1 to 4 set error flag bits 0 to 3 in turn and change nothing else in the table"
 unfoldable pub flagged : List ℕ → Verdict → List ℕ
-flagged t Done = t
-flagged t NoForm = withErrors t (withBit 0 (errors t))
-flagged t Busy = withErrors t (withBit 1 (errors t))
-flagged t OutOfRange = withErrors t (withBit 2 (errors t))
-flagged t LocalMode = withErrors t (withBit 3 (errors t))
-flagged t Disabled = withErrors t (withBit 3 (errors t))
-flagged t SwitchAhead = withErrors t (withBit 3 (errors t))
-flagged t NoRoom = withErrors t (withBit 3 (errors t))
-flagged t NotDriving = withErrors t (withBit 3 (errors t))
-flagged t WrongSize = t
-flagged t NotSound = t
+flagged t v = withErrors t (withBit (numberOf v - 1) (errors t))

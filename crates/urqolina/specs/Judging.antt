@@ -19,7 +19,7 @@ use Rattle.line.specs.declared.Start.the-variants.{Abs, Rel, Scan, Jog}
 use Rattle.line.specs.declared.Setting.{Setting}
 use Rattle.line.specs.declared.Setting.the-variants.{Preset, SetCwLimit, SetCcwLimit, Select, SetSpeed, SetSwitches, SetMotor}
 use Rattle.line.specs.declared.Order.{Order}
-use Rattle.line.specs.declared.Order.the-variants.{Go, Stop, StopAll, ChangeSpeed, Set, Ask, Local, Remote, AllReply, AskAllReply, AskFlags, AskError, ClearErrors, ClearError}
+use Rattle.line.specs.declared.Order.the-variants.{Go, Stop, StopAll, ChangeSpeed, Set, Ask, Mode, AllReply, AskHead, ClearErrors, ClearError}
 use Rattle.table.specs.Layout.{mode, motorAt}
 
 -- "Reads, the four stops, LOC, REM and the ERR family are taken in both modes; the rest need remote mode."
@@ -30,12 +30,9 @@ needsRemote (StopAll e) = false
 needsRemote (ChangeSpeed x v) = true
 needsRemote (Set x s) = true
 needsRemote (Ask x q) = false
-needsRemote Local = false
-needsRemote Remote = false
-needsRemote (AllReply on) = true
-needsRemote AskAllReply = false
-needsRemote AskFlags = false
-needsRemote AskError = false
+needsRemote (Mode k) = false
+needsRemote (AllReply k) = true
+needsRemote (AskHead q) = false
 needsRemote ClearErrors = false
 needsRemote (ClearError e) = false
 
@@ -74,12 +71,9 @@ valueInRange (StopAll e) = true
 valueInRange (ChangeSpeed x v) = isSpeed v
 valueInRange (Set x s) = settingInRange s
 valueInRange (Ask x q) = true
-valueInRange Local = true
-valueInRange Remote = true
-valueInRange (AllReply on) = true
-valueInRange AskAllReply = true
-valueInRange AskFlags = true
-valueInRange AskError = true
+valueInRange (Mode k) = true
+valueInRange (AllReply k) = true
+valueInRange (AskHead q) = true
 valueInRange ClearErrors = true
 valueInRange (ClearError e) = leb e 3
 
@@ -105,12 +99,9 @@ judgeMotor t (StopAll e) = Done
 judgeMotor t (ChangeSpeed x v) = judgeSpeedChange (motorAt t x)
 judgeMotor t (Set x s) = cond (driving (motorAt t x)) Busy Done
 judgeMotor t (Ask x q) = Done
-judgeMotor t Local = Done
-judgeMotor t Remote = Done
-judgeMotor t (AllReply on) = Done
-judgeMotor t AskAllReply = Done
-judgeMotor t AskFlags = Done
-judgeMotor t AskError = Done
+judgeMotor t (Mode k) = Done
+judgeMotor t (AllReply k) = Done
+judgeMotor t (AskHead q) = Done
 judgeMotor t ClearErrors = Done
 judgeMotor t (ClearError e) = Done
 

@@ -13,8 +13,10 @@ use Rattle.motor.specs.Sound.{driving}
 use Rattle.motor.specs.Drives.{speedNumbered}
 use Rattle.line.specs.declared.Question.{Question}
 use Rattle.line.specs.declared.Question.the-variants.{AskPosition, AskCwLimit, AskCcwLimit, AskSelected, AskSpeed, AskSwitches, AskMotor, AskStatus}
+use Rattle.line.specs.declared.HeadQuestion.{HeadQuestion}
+use Rattle.line.specs.declared.HeadQuestion.the-variants.{AskAllReply, AskFlags, AskError}
 use Rattle.line.specs.declared.Order.{Order}
-use Rattle.line.specs.declared.Order.the-variants.{Go, Stop, StopAll, ChangeSpeed, Set, Ask, Local, Remote, AllReply, AskAllReply, AskFlags, AskError, ClearErrors, ClearError}
+use Rattle.line.specs.declared.Order.the-variants.{Go, Stop, StopAll, ChangeSpeed, Set, Ask, Mode, AllReply, AskHead, ClearErrors, ClearError}
 use Rattle.table.specs.Layout.{mode, allReply, errors, motorAt}
 
 -- the text for each number; 5 and 6 have none
@@ -105,8 +107,13 @@ errorText e =
 unfoldable pub echo : List ℕ → Verdict → List ℕ
 echo t v = cond (eqb (allReply t) 1) (textOf v) []
 
--- the answer to an accepted order, on the table after it: "A read's reply is always written"; "`ERRF?` two hex digits";
--- "`ALL_REP?` EN or DS"
+-- what is answered to a question about the head: "`ALL_REP?` EN or DS"; "`ERRF?` two hex digits"
+unfoldable pub headText : List ℕ → HeadQuestion → List ℕ
+headText t AskAllReply = cond (eqb (allReply t) 1) (bytes "EN") (bytes "DS")
+headText t AskFlags = hexByte (errors t)
+headText t AskError = errorText (errors t)
+
+-- the answer to an accepted order, on the table after it: "A read's reply is always written"
 unfoldable pub answer : List ℕ → Order → List ℕ
 answer t (Go x s) = echo t Done
 answer t (Stop x e) = echo t Done
@@ -114,11 +121,8 @@ answer t (StopAll e) = echo t Done
 answer t (ChangeSpeed x v) = echo t Done
 answer t (Set x s) = echo t Done
 answer t (Ask x q) = questionText t x q
-answer t Local = echo t Done
-answer t Remote = echo t Done
-answer t (AllReply on) = echo t Done
-answer t AskAllReply = cond (eqb (allReply t) 1) (bytes "EN") (bytes "DS")
-answer t AskFlags = hexByte (errors t)
-answer t AskError = errorText (errors t)
+answer t (Mode k) = echo t Done
+answer t (AllReply k) = echo t Done
+answer t (AskHead q) = headText t q
 answer t ClearErrors = echo t Done
 answer t (ClearError e) = echo t Done

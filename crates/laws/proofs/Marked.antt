@@ -3,27 +3,28 @@
 use mathlib.Core.Path.{_≡_, refl}
 use mathlib.Core.List.{List, [], _∷_, map}
 use Prim.Native.Nat.{ℕ}
 use Rattle.urqolina.specs.Computing.{computing-urqolina}
-use Rattle.urqolina.proofs.Steps.{Step, says, reads, ticks, holds, fresh, seen, stated}
+use Rattle.digits.specs.Places.{cw}
+use Rattle.urqolina.proofs.Steps.{Step, says, reads, ticks, holds, fresh, after, seen, stated}
 
 pub cases : List (List Step)
 cases =
     -- the worked example: C REM / C REL0+3 / T 3 / C STS0? / T 1 / C PS?0
-    (says "REM" 0 "" ∷ says "REL0+3" 0 "" ∷ ticks 0 0 ∷ ticks 0 1 ∷ ticks 0 1 ∷ says "STS0?" 0 "R0P003+0000002" ∷ ticks 0 1
+    (says "REM" 0 "" ∷ says "REL0+3" 0 "" ∷ ticks 0 cw 0 ∷ ticks 0 cw 1 ∷ ticks 0 cw 1 ∷ says "STS0?" 0 "R0P003+0000002" ∷ ticks 0 cw 1
     ∷ says "PS?0" 0 "+0000003" ∷ [])
     -- 1. SCANP0: five ticks give 0, 1, 1, 1, 1.
-    ∷ (says "REM" 0 "" ∷ says "SCANP0" 0 "" ∷ ticks 0 0 ∷ ticks 0 1 ∷ ticks 0 1 ∷ ticks 0 1 ∷ ticks 0 1 ∷ [])
+    ∷ (says "REM" 0 "" ∷ says "SCANP0" 0 "" ∷ ticks 0 cw 0 ∷ ticks 0 cw 1 ∷ ticks 0 cw 1 ∷ ticks 0 cw 1 ∷ ticks 0 cw 1 ∷ [])
     -- 2. SCANP0, two ticks, SPC0400, one tick: 0, 1, 1; fraction 0.
-    ∷ (says "REM" 0 "" ∷ says "SCANP0" 0 "" ∷ ticks 0 0 ∷ ticks 0 1 ∷ says "SPC0400" 0 "" ∷ ticks 0 1 ∷ holds 98 (0 ∷ 0 ∷ [])
+    ∷ (says "REM" 0 "" ∷ says "SCANP0" 0 "" ∷ ticks 0 cw 0 ∷ ticks 0 cw 1 ∷ says "SPC0400" 0 "" ∷ ticks 0 cw 1 ∷ holds 98 (0 ∷ 0 ∷ [])
     ∷ [])
     -- 3. SPDM05000000, ABS0+1: one tick, one pulse, stopped.
-    ∷ (says "REM" 0 "" ∷ says "SPDM05000000" 0 "" ∷ says "ABS0+1" 0 "" ∷ ticks 0 1 ∷ holds 96 (0 ∷ []) ∷ [])
+    ∷ (says "REM" 0 "" ∷ says "SPDM05000000" 0 "" ∷ says "ABS0+1" 0 "" ∷ ticks 0 cw 1 ∷ holds 96 (0 ∷ []) ∷ [])
     -- 4. FL0+3, SETLS011110000, SCANP0: four ticks, then STS0? is R0S020+0000003; SCANP0 gives 4, SCANN0 gives 0.
-    ∷ (says "REM" 0 "" ∷ says "FL0+3" 0 "" ∷ says "SETLS011110000" 0 "" ∷ says "SCANP0" 0 "" ∷ ticks 0 0 ∷ ticks 0 1 ∷ ticks 0 1
-    ∷ ticks 0 1 ∷ says "STS0?" 0 "R0S020+0000003" ∷ says "SCANP0" 4 "" ∷ says "SCANN0" 0 "" ∷ [])
+    ∷ (says "REM" 0 "" ∷ says "FL0+3" 0 "" ∷ says "SETLS011110000" 0 "" ∷ says "SCANP0" 0 "" ∷ ticks 0 cw 0 ∷ ticks 0 cw 1 ∷ ticks 0 cw 1
+    ∷ ticks 0 cw 1 ∷ says "STS0?" 0 "R0S020+0000003" ∷ says "SCANP0" 4 "" ∷ says "SCANN0" 0 "" ∷ [])
     -- 5. As 4 but ABS0+3: STS0? is R0S000+0000003.
-    ∷ (says "REM" 0 "" ∷ says "FL0+3" 0 "" ∷ says "SETLS011110000" 0 "" ∷ says "ABS0+3" 0 "" ∷ ticks 0 0 ∷ ticks 0 1 ∷ ticks 0 1
-    ∷ ticks 0 1 ∷ says "STS0?" 0 "R0S000+0000003" ∷ says "SCANP0" 4 "" ∷ says "SCANN0" 0 "" ∷ [])
+    ∷ (says "REM" 0 "" ∷ says "FL0+3" 0 "" ∷ says "SETLS011110000" 0 "" ∷ says "ABS0+3" 0 "" ∷ ticks 0 cw 0 ∷ ticks 0 cw 1 ∷ ticks 0 cw 1
+    ∷ ticks 0 cw 1 ∷ says "STS0?" 0 "R0S000+0000003" ∷ says "SCANP0" 4 "" ∷ says "SCANN0" 0 "" ∷ [])
     -- 6. SETLS001110001: V is 1, SCANP0 gives 4.
     ∷ (says "REM" 0 "" ∷ says "SETLS001110001" 0 "" ∷ says "STS0?" 0 "R0S100+0000000" ∷ says "SCANP0" 4 "" ∷ [])
     -- 7. PS0+2147483647, then REL0+1 gives 3, SCANP0 gives 4.
@@ -33,10 +34,10 @@ cases =
     -- 9. Fresh, no REM: SCANP0 gives 4, ERRF? is 08.
     ∷ (says "SCANP0" 4 "" ∷ says "ERRF?" 0 "08" ∷ [])
     -- 10. ABSB+5 drives channel B; ABSBB+5 gives 1.
-    ∷ (says "REM" 0 "" ∷ says "ABSB+5" 0 "" ∷ ticks 11 0 ∷ ticks 11 1 ∷ says "STSB?" 0 "RBP003+0000001" ∷ says "ABSBB+5" 1 ""
+    ∷ (says "REM" 0 "" ∷ says "ABSB+5" 0 "" ∷ ticks 11 cw 0 ∷ ticks 11 cw 1 ∷ says "STSB?" 0 "RBP003+0000001" ∷ says "ABSBB+5" 1 ""
     ∷ [])
     ∷ []
 
 marked : map (seen fresh) cases ≡ map (λ c. map stated c) cases
-unfolding computing-urqolina cases seen
+unfolding computing-urqolina cases fresh after seen stated
 marked = refl

@@ -1,0 +1,92 @@
+-- The calls computed on cases beyond document 01's marked ones: the order of the refusals, the replies, settings read back,
+-- switch readings, and inputs that no call may take. Each list is one statement, and its proof is the computation.
+use mathlib.Core.Path.{_≡_, refl}
+use mathlib.Core.List.{List, [], _∷_, _++_, map}
+use mathlib.Core.Bool.{Bool, true, false}
+use Prim.Native.Nat.{ℕ}
+use lib.ListN.{length, replicate, drop}
+use Rattle.digits.specs.Bytes.{put}
+use Rattle.digits.specs.Places.{cw, ccw}
+use Rattle.digits.specs.Text.{bytes}
+use Rattle.urqolina.specs.Calls.{TableAfter, CommandAfter, TickAfter, freshCall, commandCall, readingCall, tickCall}
+use Rattle.urqolina.specs.Computing.{computing-urqolina}
+use Rattle.urqolina.proofs.Steps.{Step, says, reads, ticks, holds, lent, fresh, after, seen, stated}
+
+-- Local mode refuses starts, settings, SPC and all-reply before their values are looked at, and a line with no form before
+-- that; reads, stops, LOC, REM and the ERR family are taken. Each number leaves its flag, and ERR? tells the lowest.
+local-mode : List Step
+local-mode =
+    says "SCANP0" 4 "" ∷ says "PS0+9999999999" 4 "" ∷ says "SPDM0" 4 "" ∷ says "SPC00" 4 "" ∷ says "ALL_REP EN" 4 "" ∷ says "REL0+0" 4 ""
+    ∷ says "ERRF?" 0 "08" ∷ says "ERR?" 0 "OTHER ERROR" ∷ says "scanp0" 1 "" ∷ says "ERR?" 0 "COMMAND ERROR" ∷ says "ERRC4" 3 ""
+    ∷ says "ERRF?" 0 "0D" ∷ says "ERRC0" 0 "" ∷ says "ERR?" 0 "PARAMETER ERROR" ∷ says "SSTP0" 0 "" ∷ says "AESTP" 0 ""
+    ∷ says "ALL_REP?" 0 "DS" ∷ says "LOC" 0 "" ∷ says "STSF?" 0 "LFS000+0000000" ∷ says "ERRC" 0 "" ∷ says "ERR?" 0 "NO ERROR" ∷ []
+
+-- In remote mode the value comes before busy, busy before the target's range, and that before the motor's own causes. ABS to
+-- the present position and REL 0 meet no check after busy; SPC knows no busy and needs a drive.
+refusals : List Step
+refusals =
+    says "REM" 0 "" ∷ says "PSE+2147483640" 0 "" ∷ says "SPCE100" 4 "" ∷ says "SCANNE" 0 "" ∷ says "RELE+2147483648" 3 ""
+    ∷ says "RELE+100" 2 "" ∷ says "ABSE+2147483640" 2 "" ∷ says "RELE+0" 2 "" ∷ says "SPDME5000001" 3 "" ∷ says "SPDME500" 2 ""
+    ∷ says "SPDHE" 2 "" ∷ says "FLE+1" 2 "" ∷ says "SETMTE1110" 3 "" ∷ says "SETMTE1100" 2 "" ∷ says "SETLSE21110000" 3 ""
+    ∷ says "SPCE5000001" 3 "" ∷ says "SPCE5000000" 0 "" ∷ says "SSTPE" 0 "" ∷ says "SSTPE" 0 "" ∷ says "STSE?" 0 "RES040+2147483640"
+    ∷ says "JOGPE" 0 "" ∷ says "ESTPE" 0 "" ∷ says "SETMTE0000" 0 "" ∷ says "RELE+100" 3 "" ∷ says "SCANNE" 4 "" ∷ says "ABSE+2147483640" 0 ""
+    ∷ says "RELE-0" 0 "" ∷ says "STSE?" 0 "RES880+2147483640" ∷ says "ERRF?" 0 "0E" ∷ says "ERR?" 0 "MCC06 BUSY ERROR" ∷ []
+
+-- With all-reply on every line is answered: a read with its own reply, the others and refusals with their text; as it is
+-- after the command.
+all-reply : List Step
+all-reply =
+    says "REM" 0 "" ∷ says "ALL_REP EN" 0 "OK" ∷ says "ALL_REP?" 0 "EN" ∷ says "SCANP3" 0 "OK" ∷ says "SCANP3" 2 "MCC06 BUSY ERROR"
+    ∷ says "PS0+2147483648" 3 "PARAMETER ERROR" ∷ says "X" 1 "COMMAND ERROR" ∷ says "SPC0800" 4 "NG" ∷ says "ASSTP" 0 "OK" ∷ says "LOC" 0 "OK"
+    ∷ says "ALL_REP DS" 4 "NG" ∷ says "REM" 0 "OK" ∷ says "ALL_REP DS" 0 "" ∷ says "X" 1 "" ∷ says "ALL_REP?" 0 "DS" ∷ []
+
+-- An accepted setting reads back with its value, and stands in its bytes.
+settings : List Step
+settings =
+    says "REM" 0 "" ∷ says "PS?A" 0 "+0000000" ∷ says "FL?A" 0 "+1000000" ∷ says "BL?A" 0 "-1000000" ∷ says "SPD?A" 0 "MSPD"
+    ∷ says "SPDH?A" 0 "001000" ∷ says "SPDM?A" 0 "000800" ∷ says "SPDL?A" 0 "000050" ∷ says "SETLS?A" 0 "01110000" ∷ says "SETMT?A" 0 "1100"
+    ∷ says "PSA-12" 0 "" ∷ says "FLA+2147483647" 0 "" ∷ says "BLA-2147483647" 0 "" ∷ says "SPDHA5000000" 0 "" ∷ says "SPDMA1" 0 ""
+    ∷ says "SPDLA0000000123" 0 "" ∷ says "SPDLA" 0 "" ∷ says "SETLSA11011011" 1 "" ∷ says "SETLSA11019010" 1 "" ∷ says "SETLSA11010101" 0 ""
+    ∷ says "SETMTA1002" 0 "" ∷ says "PS?A" 0 "-0000012" ∷ says "FL?A" 0 "+2147483647" ∷ says "BL?A" 0 "-2147483647" ∷ says "SPD?A" 0 "LSPD"
+    ∷ says "SPDH?A" 0 "5000000" ∷ says "SPDM?A" 0 "000001" ∷ says "SPDL?A" 0 "000123" ∷ says "SETLS?A" 0 "11010101" ∷ says "SETMT?A" 0 "1002"
+    ∷ says "STSA?" 0 "RASD00-0000012" ∷ holds 704 (0xf4 ∷ 0xff ∷ 0xff ∷ 0xff ∷ 0xff ∷ 0xff ∷ 0xff ∷ 0x7f ∷ 1 ∷ 0 ∷ 0 ∷ 0x80 ∷ []) ∷ []
+
+-- A reading is taken in both modes, replaces the contacts, and ends a drive by the switch of its direction alone. CCW counts
+-- are negative.
+readings : List Step
+readings =
+    says "REM" 0 "" ∷ says "SPDM24000" 0 "" ∷ says "SCANN2" 0 "" ∷ ticks 2 ccw 4 ∷ says "LOC" 0 "" ∷ reads 2 5 0 ∷ says "STS2?" 0 "L2N503-0000004"
+    ∷ reads 2 3 0 ∷ says "STS2?" 0 "L2S320-0000004" ∷ ticks 2 ccw 0 ∷ reads 16 0 5 ∷ reads 2 8 5 ∷ reads 4294967295 4294967295 5
+    ∷ reads 15 7 0 ∷ says "STSF?" 0 "LFS700+0000000" ∷ []
+
+pub conversations : List (List Step)
+conversations = local-mode ∷ refusals ∷ all-reply ∷ settings ∷ readings ∷ []
+
+conversed : map (seen fresh) conversations ≡ map (map stated) conversations
+unfolding computing-urqolina conversations local-mode refusals all-reply settings readings fresh after seen stated
+conversed = refl
+
+-- Inputs that no call may take: tables of 0, 1,087 and 1,089 bytes and one of all FFh, buffers too short and too long. The
+-- sizes come before the table, and nothing is changed anywhere.
+bad-command :
+    (map (λ n. commandCall (lent n) (bytes "REM") (lent 32) .result) (0 ∷ 1087 ∷ 1088 ∷ 1089 ∷ []) ≡ 5 ∷ 5 ∷ 6 ∷ 5 ∷ [])
+    × (map (λ n. commandCall fresh (bytes "REM") (lent n) .result) (0 ∷ 31 ∷ 32 ∷ 33 ∷ []) ≡ 5 ∷ 5 ∷ 0 ∷ 0 ∷ [])
+    × (commandCall (replicate 1088 0xff) [] (lent 32) ≡ record { result = 6; table = replicate 1088 0xff; reply = lent 32 })
+    × (commandCall (lent 9) (bytes "REM") (lent 7) ≡ record { result = 5; table = lent 9; reply = lent 7 })
+    × (map (λ s. commandCall fresh s (lent 32) .result) ([] ∷ replicate 81 65 ∷ (0xd2 ∷ 69 ∷ 77 ∷ []) ∷ bytes "rem" ∷ []) ≡ 1 ∷ 1 ∷ 1 ∷ 1 ∷ [])
+unfolding computing-urqolina fresh
+bad-command = (refl, refl, refl, refl, refl)
+
+bad-calls :
+    (map (λ n. freshCall (lent n) .result) (0 ∷ 1087 ∷ 1088 ∷ 1089 ∷ []) ≡ 5 ∷ 5 ∷ 0 ∷ 5 ∷ [])
+    × (freshCall (lent 1087) .table ≡ lent 1087)
+    × (map (λ n. readingCall (lent n) 0 0 .result) (0 ∷ 1087 ∷ 1088 ∷ 1089 ∷ []) ≡ 5 ∷ 5 ∷ 6 ∷ 5 ∷ [])
+    × (map (λ n. tickCall (lent n) (lent 64) .result) (0 ∷ 1087 ∷ 1088 ∷ 1089 ∷ []) ≡ 5 ∷ 5 ∷ 6 ∷ 5 ∷ [])
+    × (map (λ n. tickCall fresh (lent n) .result) (0 ∷ 63 ∷ 64 ∷ 65 ∷ []) ≡ 5 ∷ 5 ∷ 0 ∷ 5 ∷ [])
+    × (tickCall (replicate 1088 0xff) (lent 64) ≡ record { result = 6; table = replicate 1088 0xff; pulses = lent 64 })
+    × (tickCall fresh (lent 65) ≡ record { result = 5; table = fresh; pulses = lent 65 })
+    × (readingCall (put fresh 1087 (1 ∷ [])) 0 0 ≡ record { result = 6; table = put fresh 1087 (1 ∷ []) })
+    × (map (λ at. tickCall (put fresh at (1 ∷ [])) (lent 64) .result) (0 ∷ 1 ∷ 2 ∷ 3 ∷ 63 ∷ []) ≡ 0 ∷ 0 ∷ 0 ∷ 6 ∷ 6 ∷ [])
+    × (map (λ at. tickCall (put fresh at (16 ∷ [])) (lent 64) .result) (0 ∷ 1 ∷ 2 ∷ []) ≡ 6 ∷ 6 ∷ 6 ∷ [])
+unfolding computing-urqolina fresh
+bad-calls = (refl, refl, refl, refl, refl, refl, refl, refl, refl, refl)

@@ -1,0 +1,55 @@
+-- 5 and 6, for all inputs: "5 and 6 change nothing anywhere; fresh gives only 0 or 5." The sizes are judged first, then the
+-- table, and then a call never gives 5 or 6.
+use mathlib.Core.Path.{_≡_, refl}
+use mathlib.Core.List.{List}
+use mathlib.Core.Bool.{Bool, true, false, _&&_}
+use mathlib.Core.Logic.{_⊎_, inl, inr}
+use Prim.Native.Nat.{ℕ}
+use lib.ListN.{length}
+use lib.Dec.{eqb, leb}
+use Rattle.motor.specs.Numbers.{numberOf}
+use Rattle.table.specs.Layout.{tableSize, freshTable}
+use Rattle.table.specs.Sound.{soundTable}
+use Rattle.urqolina.specs.Calls.{TableAfter, CommandAfter, TickAfter, freshCall, commandCall, readingCall, tickCall}
+
+-- a fresh call makes the fresh table and gives 0, or gives 5 and leaves the bytes
+pub fresh-made : (t : List ℕ) → eqb (length t) tableSize ≡ true → freshCall t ≡ record { result = 0; table = freshTable }
+unfolding freshCall numberOf
+fresh-made t e = rw e
+
+pub fresh-refused : (t : List ℕ) → eqb (length t) tableSize ≡ false → freshCall t ≡ record { result = 5; table = t }
+unfolding freshCall numberOf
+fresh-refused t e = rw e
+
+-- a command with a wrong size, and one on a table that is not sound
+pub command-size : (t line reply : List ℕ) → (eqb (length t) tableSize && leb 32 (length reply)) ≡ false
+    → commandCall t line reply ≡ record { result = 5; table = t; reply = reply }
+unfolding commandCall numberOf
+command-size t line reply e = rw e
+
+pub command-unsound : (t line reply : List ℕ) → (eqb (length t) tableSize && leb 32 (length reply)) ≡ true → soundTable t ≡ false
+    → commandCall t line reply ≡ record { result = 6; table = t; reply = reply }
+unfolding commandCall numberOf
+command-unsound t line reply e u = rw (e, u)
+
+-- a reading
+pub reading-size : (t : List ℕ) (c n : ℕ) → (eqb (length t) tableSize && leb c 15 && leb n 7) ≡ false
+    → readingCall t c n ≡ record { result = 5; table = t }
+unfolding readingCall numberOf
+reading-size t c n e = rw e
+
+pub reading-unsound : (t : List ℕ) (c n : ℕ) → (eqb (length t) tableSize && leb c 15 && leb n 7) ≡ true → soundTable t ≡ false
+    → readingCall t c n ≡ record { result = 6; table = t }
+unfolding readingCall numberOf
+reading-unsound t c n e u = rw (e, u)
+
+-- a tick
+pub tick-size : (t pulses : List ℕ) → (eqb (length t) tableSize && eqb (length pulses) 64) ≡ false
+    → tickCall t pulses ≡ record { result = 5; table = t; pulses = pulses }
+unfolding tickCall numberOf
+tick-size t pulses e = rw e
+
+pub tick-unsound : (t pulses : List ℕ) → (eqb (length t) tableSize && eqb (length pulses) 64) ≡ true → soundTable t ≡ false
+    → tickCall t pulses ≡ record { result = 6; table = t; pulses = pulses }
+unfolding tickCall numberOf
+tick-unsound t pulses e u = rw (e, u)
