@@ -1,24 +1,24 @@
 -- The definitions computed on cases: words, places, and numbers in digits. One statement for each list, by computation.
 use mathlib.Core.Path.{_≡_, refl}
-use mathlib.Core.List.{List, [], _∷_, _++_}
-use mathlib.Core.Bool.{Bool, true, false, _&&_, not}
-use Prim.Native.Nat.{ℕ, _+_}
-use lib.Dec.{eqb}
+use mathlib.Core.List.{[], _∷_}
+use mathlib.Core.Bool.{true, false}
+use Prim.Native.Nat.{_+_}
 use Rattle.digits.specs.Bytes.{part, put, pieces, all, each, gather, allZero}
 use Rattle.digits.specs.Words.{word, wordBytes, withBit, withoutBit}
 use Rattle.digits.specs.Places.{origin, placeOf, wordOf, countOf, cw, ccw}
-use Rattle.digits.specs.Text.{bytes, same, decimal, digitCount, powersUpTo, lastDigits, signedDecimal, hexDigit, hexByte, hexValue, isHex, valueFrom, valueOf, digitsAtFront}
+use Rattle.digits.specs.Text.{bytes, decimal, signedDecimal, hexByte, hexValue, isHex, valueOf, digitsAtFront}
+use Rattle.digits.specs.Computing.{computing-digits}
 
 -- -1 is FF FF FF FF and stands one below the origin; the lowest bytes come first
 words :
     (wordBytes 4 1000000 ≡ 0x40 ∷ 0x42 ∷ 0x0f ∷ 0 ∷ []) × (word (0x40 ∷ 0x42 ∷ 0x0f ∷ 0 ∷ []) ≡ 1000000)
     × (placeOf (word (0xff ∷ 0xff ∷ 0xff ∷ 0xff ∷ [])) ≡ 2147483647) × (wordOf 1 ≡ 0x80000001) × (placeOf 0x80000000 ≡ 0)
-unfolding wordBytes word placeOf wordOf
+unfolding computing-digits
 words = (refl, refl, refl, refl, refl)
 
 -- one pulse CCW is -1 in the pulse buffer, and none is 0 either way
 counts : (countOf ccw 1 ≡ 0xffffffff) × (countOf ccw 0 ≡ 0) × (countOf cw 5000 ≡ 5000)
-unfolding countOf
+unfolding computing-digits
 counts = (refl, refl, refl)
 
 -- document 01's own replies: "a sign (+ for 0) and at least 7 digits; speeds, at least 6"
@@ -26,14 +26,14 @@ written :
     (signedDecimal 7 origin ≡ bytes "+0000000") × (signedDecimal 7 (origin + 3) ≡ bytes "+0000003")
     × (signedDecimal 7 1 ≡ bytes "-2147483647") × (decimal 6 50 ≡ bytes "000050") × (decimal 6 5000000 ≡ bytes "5000000")
     × (decimal 1 0 ≡ bytes "0") × (hexByte 0x80 ≡ bytes "80") × (hexByte 15 ≡ bytes "0F")
-unfolding signedDecimal decimal digitCount powersUpTo lastDigits hexByte hexDigit bytes
+unfolding computing-digits
 written = (refl, refl, refl, refl, refl, refl, refl, refl)
 
 -- leading zeros are digits, and the number ends where the digits do
 reads :
     (digitsAtFront (bytes "0012A3") ≡ 4) × (valueOf (bytes "0012") ≡ 12) × (hexValue 70 ≡ 15)
     × (isHex 71 ≡ false) × (isHex 97 ≡ false) × (isHex 57 ≡ true)
-unfolding digitsAtFront valueFrom hexValue bytes
+unfolding computing-digits
 reads = (refl, refl, refl, refl, refl, refl)
 
 -- what is written stands where it was put, and the rest as it was
@@ -42,10 +42,10 @@ buffers :
     × (pieces 2 2 (1 ∷ 2 ∷ 3 ∷ 4 ∷ 5 ∷ []) ≡ (1 ∷ 2 ∷ []) ∷ (3 ∷ 4 ∷ []) ∷ [])
     × (each (λ p. 9 ∷ p) ((1 ∷ []) ∷ [] ∷ []) ≡ 9 ∷ 1 ∷ 9 ∷ []) × (gather (λ c. c ∷ []) 3 ≡ 0 ∷ 1 ∷ 2 ∷ [])
     × (all allZero ((0 ∷ []) ∷ (0 ∷ 1 ∷ []) ∷ []) ≡ false) × (all allZero ((0 ∷ []) ∷ (0 ∷ 0 ∷ []) ∷ []) ≡ true)
-unfolding put part pieces each gather all allZero
+unfolding computing-digits
 buffers = (refl, refl, refl, refl, refl, refl, refl)
 
 -- a bit that is set stays set, one that is clear stays clear
 bits : (withBit 3 0 ≡ 8) × (withBit 3 9 ≡ 9) × (withoutBit 0 9 ≡ 8) × (withoutBit 1 9 ≡ 9)
-unfolding withBit withoutBit
+unfolding computing-digits
 bits = (refl, refl, refl, refl)

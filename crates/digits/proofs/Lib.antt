@@ -1,2 +1,3 @@
+pub mod Words
 pub mod Signed
 pub mod Cases

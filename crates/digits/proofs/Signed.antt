@@ -12,8 +12,9 @@ use lib.IntN.{ℤ, pos, negsuc, negℤ, _+ℤ_, subℕ}
 use mir.Syntax.{w32}
 use mir.Val.{toZ}
 use borrow.Author.Tests.{ltb-true, ltb-false, lt-ltb, le-ltb}
-use Rattle.digits.specs.Words.{word}
+use Rattle.digits.specs.Words.{word, wordBytes}
 use Rattle.digits.specs.Places.{origin, placeOf, wordOf, countOf, cw, ccw}
+use Rattle.digits.proofs.Words.{word-bytes}
 
 -- the two halves of the range: the shift is up for the one that is not negative, down for the other
 low : (w : ℕ) → w < 2147483648 → placeOf w ≡ w + 2147483648
@@ -65,3 +66,18 @@ count-ccw (suc n) h =
     let e : (4294967296 - suc n) % 4294967296 ≡ 4294967296 - suc n = mod-eq-of-lt (omega arith) in
     rw (e, le-ltb (4294967296 - suc n) 2147483648 (omega arith))
     (ap negsuc (omega arith))
+
+-- The same of the four bytes that stand in the pulse buffer.
+count-fits : (going n : ℕ) → n < 2147483648 → countOf going n < 4294967296
+unfolding countOf
+count-fits going n h = go (eqb going cw)
+  where
+    go : (t : Bool) → cond t n ((4294967296 - n) % 4294967296) < 4294967296
+    go true = omega arith
+    go false = omega arith
+
+pub pulses-signed-cw : (n : ℕ) → n < 2147483648 → toZ w32 (word (wordBytes 4 (countOf cw n))) ≡ pos n
+pulses-signed-cw n h = rw (word-bytes 4 (countOf cw n) (count-fits cw n h)) (count-cw n h)
+
+pub pulses-signed-ccw : (n : ℕ) → n < 2147483648 → toZ w32 (word (wordBytes 4 (countOf ccw n))) ≡ negℤ (pos n)
+pulses-signed-ccw n h = rw (word-bytes 4 (countOf ccw n) (count-fits ccw n h)) (count-ccw n h)

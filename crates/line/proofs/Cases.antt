@@ -1,25 +1,23 @@
 -- Lines and the orders that they are, computed by the definitions. Each list is one statement, and its proof is the
 -- computation.
 use mathlib.Core.Path.{_≡_, refl}
-use mathlib.Core.List.{List, [], _∷_, _++_, map}
-use mathlib.Core.Bool.{Bool, true, false}
+use mathlib.Core.List.{[], _∷_, _++_, map}
+use mathlib.Core.Bool.{true, false}
 use Prim.Native.Nat.{ℕ}
 use Prim.Native.String as S
 use lib.ListN.{replicate}
-use Rattle.digits.specs.Text.{bytes, same, digitsAtFront, valueFrom, hexValue}
+use Rattle.digits.specs.Text.{bytes}
 use Rattle.digits.specs.Places.{cw, ccw}
-use Rattle.line.specs.declared.Four.{Four}
 use Rattle.line.specs.declared.Written.{Written}
 use Rattle.line.specs.declared.Start.the-variants.{Abs, Rel, Scan, Jog}
 use Rattle.line.specs.declared.Setting.the-variants.{Preset, SetCwLimit, SetCcwLimit, Select, SetSpeed, SetSwitches, SetMotor}
 use Rattle.line.specs.declared.Question.the-variants.{AskPosition, AskCwLimit, AskCcwLimit, AskSelected, AskSpeed, AskSwitches, AskMotor, AskStatus}
-use Rattle.line.specs.declared.Order.{Order}
 use Rattle.line.specs.declared.Order.the-variants.{Go, Stop, StopAll, ChangeSpeed, Set, Ask, Mode, AllReply, AskHead, ClearErrors, ClearError}
 use Rattle.line.specs.declared.HeadQuestion.the-variants.{AskAllReply, AskFlags, AskError}
 use Rattle.line.specs.declared.Parsed.{Parsed}
 use Rattle.line.specs.declared.Parsed.the-variants.{Is, Nothing}
-use Rattle.line.specs.Reading.{readChannel, readNumber, readSigned, readDigit, readQuestion, readFour, readZeroThree, readFields}
-use Rattle.line.specs.Forms.{asRow, forms, firstForm, orderOf}
+use Rattle.line.specs.Forms.{orderOf}
+use Rattle.line.specs.Computing.{computing-line}
 
 -- a quoted line as an order
 line : S.String → Parsed
@@ -45,7 +43,7 @@ every-form :
     ≡ map (λ q. Is (Ask 0 q)) (AskPosition ∷ AskCwLimit ∷ AskCcwLimit ∷ AskSelected ∷ AskSpeed 2 ∷ AskSpeed 1 ∷ AskSpeed 0 ∷ AskSwitches ∷ AskMotor ∷ AskStatus ∷ []))
     × (map line ("LOC" ∷ "REM" ∷ "ALL_REP EN" ∷ "ALL_REP DS" ∷ "ALL_REP?" ∷ "ERRF?" ∷ "ERR?" ∷ "ERRC" ∷ "ERRC9" ∷ [])
     ≡ Is (Mode 0) ∷ Is (Mode 1) ∷ Is (AllReply 1) ∷ Is (AllReply 0) ∷ Is (AskHead AskAllReply) ∷ Is (AskHead AskFlags) ∷ Is (AskHead AskError) ∷ Is ClearErrors ∷ Is (ClearError 9) ∷ [])
-unfolding line plus minus orderOf firstForm forms asRow readFields readChannel readNumber readSigned readDigit readQuestion readFour readZeroThree bytes same digitsAtFront valueFrom hexValue
+unfolding computing-line line plus minus
 every-form = (refl, refl, refl, refl, refl, refl)
 
 -- lines that have no form: empty, lower case, a byte too few or too many, a channel over F, a sign missing or doubled, no
@@ -57,7 +55,7 @@ no-form :
     ∷ "SETLS0111100000" ∷ "SETMT0110" ∷ "SETMT011000" ∷ "STS0" ∷ "STS?0" ∷ "PS?" ∷ "PS?0?" ∷ "ALL_REP  EN" ∷ "ALL_REP" ∷ "ERRC00"
     ∷ "ERRCA" ∷ "ERRF" ∷ "SSTP" ∷ "ASSTP0" ∷ "C0RLN01+5/+0" ∷ [])
     ≡ replicate 37 Nothing
-unfolding line orderOf firstForm forms asRow readFields readChannel readNumber readSigned readDigit readQuestion readFour readZeroThree bytes same digitsAtFront valueFrom hexValue
+unfolding computing-line line
 no-form = refl
 
 -- bytes over 127, and lines of 81 bytes; no form is longer than fifteen bytes, so that the limit of 80 refuses no line that
@@ -65,5 +63,5 @@ no-form = refl
 long-lines :
     (orderOf (0xc1 ∷ 0xff ∷ []) ≡ Nothing) × (orderOf (bytes "REM" ++ replicate 78 0) ≡ Nothing)
     × (orderOf (replicate 81 65) ≡ Nothing)
-unfolding orderOf firstForm forms asRow readFields readChannel readNumber readSigned readDigit readQuestion readFour readZeroThree bytes same digitsAtFront valueFrom hexValue
+unfolding computing-line
 long-lines = (refl, refl, refl)

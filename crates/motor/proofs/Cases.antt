@@ -1,26 +1,21 @@
 -- The definitions of one motor, computed on cases. Each list is one statement, and its proof is the computation.
 use mathlib.Core.Path.{_≡_, refl}
 use mathlib.Core.List.{List, [], _∷_, _++_, map}
-use mathlib.Core.Bool.{Bool, true, false, _&&_, not, cond}
+use mathlib.Core.Bool.{Bool, true, false}
 use Prim.Native.Nat.{ℕ, zero, suc, _+_, _-_}
 use lib.ListN.{length}
-use lib.Dec.{eqb}
-use Rattle.digits.specs.Bytes.{part, put, allZero}
-use Rattle.digits.specs.Words.{word, wordBytes}
-use Rattle.digits.specs.Places.{origin, placeOf, wordOf, countOf, cw, ccw}
-use Rattle.motor.specs.declared.Limits.{Limits}
-use Rattle.motor.specs.declared.Speeds.{Speeds}
-use Rattle.motor.specs.declared.Wiring.{Wiring}
+use Rattle.digits.specs.Bytes.{part, put}
+use Rattle.digits.specs.Words.{wordBytes}
+use Rattle.digits.specs.Places.{origin, cw, ccw}
 use Rattle.motor.specs.declared.Motor.{Motor}
-use Rattle.motor.specs.declared.Course.{Course}
 use Rattle.motor.specs.declared.Course.the-variants.{Stay, Beyond, To, Along}
-use Rattle.motor.specs.declared.Verdict.{Verdict}
-use Rattle.motor.specs.declared.Verdict.the-variants.{Done, Busy, OutOfRange, Disabled, SwitchAhead, NoRoom, NotDriving}
-use Rattle.motor.specs.Record.{motorOf, recordOf, freshMotor, withPlace, withLimits, withSpeeds, withWiring, withDrive}
-use Rattle.motor.specs.Switches.{active, blocked, edge, room}
-use Rattle.motor.specs.Sound.{limitsInRange, speedsInRange, wiringInRange, setupInRange, driveInRange, inRange, atRest, aimRight, underWay, soundMotor, soundRecord}
-use Rattle.motor.specs.Drives.{speedNumbered, courseTo, towards, hindrance, judgeStart, started, stopped, speedChanged, switchRead, ssend, lsend}
-use Rattle.motor.specs.Ticks.{tickSpeed, due, rest, distanceLeft, given, reached, usedUp, drivenOn, tickMotor, tickCount}
+use Rattle.motor.specs.declared.Verdict.the-variants.{Done, Busy, OutOfRange, SwitchAhead, NoRoom}
+use Rattle.motor.specs.Record.{motorOf, recordOf, freshMotor, withPlace, withLimits, withSpeeds, withWiring}
+use Rattle.motor.specs.Switches.{active, blocked, room}
+use Rattle.motor.specs.Sound.{soundRecord}
+use Rattle.motor.specs.Drives.{courseTo, judgeStart, started, stopped, speedChanged, switchRead, ssend, lsend}
+use Rattle.motor.specs.Ticks.{given, tickMotor}
+use Rattle.motor.specs.Computing.{computing-motor}
 
 -- the motor after k ticks, and the pulses of each of them
 ticks : ℕ → Motor → Motor
@@ -48,21 +43,21 @@ fraction-carried :
     (pulses 5 (started freshMotor (Along cw)) ≡ 0 ∷ 1 ∷ 1 ∷ 1 ∷ 1 ∷ [])
     × (pulses 5 (started freshMotor (Along ccw)) ≡ 0 ∷ 1 ∷ 1 ∷ 1 ∷ 1 ∷ [])
     × (ticks 5 (started freshMotor (Along ccw)) .place ≡ origin - 4)
-unfolding ticks pulses tickMotor drivenOn reached usedUp given distanceLeft due rest tickSpeed room edge started towards speedNumbered freshMotor
+unfolding computing-motor ticks pulses
 fraction-carried = (refl, refl, refl)
 
 -- A stop drops the fraction: it zeroes bytes 32 to 43, and the next drive's first tick gives none.
 fraction-dropped :
     (part (recordOf (stopped ssend (ticks 1 (started freshMotor (Along cw))))) 31 13 ≡ 0x40 ∷ 0 ∷ 0 ∷ 0 ∷ 0 ∷ 0 ∷ 0 ∷ 0 ∷ 0 ∷ 0 ∷ 0 ∷ 0 ∷ 0 ∷ [])
     × (pulses 2 (started (stopped ssend (ticks 1 (started freshMotor (Along cw)))) (Along cw)) ≡ 0 ∷ 1 ∷ [])
-unfolding part recordOf wordBytes wordOf stopped ticks pulses tickMotor drivenOn reached usedUp given distanceLeft due rest tickSpeed room edge started towards speedNumbered freshMotor
+unfolding computing-motor ticks pulses
 fraction-dropped = (refl, refl)
 
 -- "SPC replaces the speed in force and keeps the fraction": after two ticks at 800 it is 600, and 400 more make one pulse.
 speed-change :
     (pulses 1 (speedChanged (ticks 2 (started freshMotor (Along cw))) 400) ≡ 1 ∷ [])
     × (ticks 1 (speedChanged (ticks 2 (started freshMotor (Along cw))) 400) .drive .fraction ≡ 0)
-unfolding speedChanged ticks pulses tickMotor drivenOn reached usedUp given distanceLeft due rest tickSpeed room edge started towards speedNumbered freshMotor
+unfolding computing-motor ticks pulses
 speed-change = (refl, refl)
 
 -- 5,000 pulses can fall in one tick: a target, a digital limit, and the nearer of the two end it there. The target counts
@@ -75,7 +70,7 @@ capped :
     × (ticks 1 (started (limited 5000000 3) (To (origin + 3))) .ended ≡ 0)
     × (ticks 1 (started (limited 5000000 3) (Along cw)) .ended ≡ lsend)
     × (ticks 1 (started (limited 5000000 3) (To (origin + 100))) .place ≡ origin + 3)
-unfolding ticks pulses tickMotor drivenOn reached usedUp given distanceLeft due rest tickSpeed room edge started towards speedNumbered atSpeed limited freshMotor
+unfolding computing-motor ticks pulses atSpeed limited
 capped = (refl, refl, refl, refl, refl, refl, refl)
 
 -- The four kinds of switch, at the CW switch: N.O. open, N.O. closed, N.C. open, N.C. closed. Not enabled, none of them
@@ -85,7 +80,7 @@ switches :
     × (map (λ w. active 0 (wired w 1 .wiring)) (0b00010000 ∷ 0b00010001 ∷ []) ≡ true ∷ false ∷ [])
     × (map (λ w. blocked cw (wired w 0)) (0b00010001 ∷ 0b00000001 ∷ 0b00100010 ∷ 0b01000100 ∷ []) ≡ true ∷ false ∷ false ∷ false ∷ [])
     × (map (λ w. blocked ccw (wired w 0)) (0b00010001 ∷ 0b00000010 ∷ 0b00100010 ∷ 0b01000100 ∷ []) ≡ false ∷ false ∷ true ∷ false ∷ [])
-unfolding active blocked wired
+unfolding computing-motor wired
 switches = (refl, refl, refl, refl)
 
 -- A reading ends a drive only by the switch of its direction, with LSEND; HP and the other side end nothing.
@@ -93,7 +88,7 @@ readings :
     (map (λ n. switchRead (started freshMotor (Along cw)) n .drive .going) (0 ∷ 1 ∷ 2 ∷ 4 ∷ 6 ∷ 7 ∷ []) ≡ 1 ∷ 0 ∷ 1 ∷ 1 ∷ 1 ∷ 0 ∷ [])
     × (map (λ n. switchRead (started freshMotor (Along ccw)) n .ended) (0 ∷ 1 ∷ 2 ∷ 5 ∷ 6 ∷ 7 ∷ []) ≡ 0 ∷ 0 ∷ 0x20 ∷ 0 ∷ 0x20 ∷ 0x20 ∷ [])
     × (switchRead freshMotor 7 .wiring .contacts ≡ 7) × (switchRead freshMotor 7 .ended ≡ 0)
-unfolding switchRead blocked active started towards speedNumbered freshMotor
+unfolding computing-motor
 readings = (refl, refl, refl, refl)
 
 -- Room to both ends of the range, to a digital limit with D = 1, and none past a limit; limits may cross.
@@ -102,7 +97,7 @@ rooms :
     × (room ccw (limited 800 3) ≡ 1000000) × (room cw (withPlace (limited 800 3) (origin + 5)) ≡ 0)
     × (room ccw (withPlace (limited 800 3) (origin + 5)) ≡ 1000005) × (room cw (withPlace freshMotor 4294967295) ≡ 0)
     × (room ccw (withPlace freshMotor 1) ≡ 0)
-unfolding room edge limited atSpeed freshMotor
+unfolding computing-motor limited atSpeed
 rooms = (refl, refl, refl, refl, refl, refl, refl, refl)
 
 -- Starts as they are judged: to the present place, past the range, onto an active switch, with A = 0, with no room, and on a
@@ -114,7 +109,7 @@ starts :
     × (judgeStart (wired 0b00010001 0) (Along cw) ≡ SwitchAhead) × (judgeStart (wired 0b00010001 0) (Along ccw) ≡ Done)
     × (judgeStart (limited 800 0) (To (origin + 9)) ≡ NoRoom) × (judgeStart (limited 800 0) (To (origin - 9)) ≡ Done)
     × (judgeStart (started freshMotor (Along cw)) Stay ≡ Busy)
-unfolding courseTo judgeStart hindrance blocked active room edge started towards speedNumbered wired limited atSpeed freshMotor
+unfolding computing-motor wired limited atSpeed
 starts = (refl, refl, refl, refl, refl, refl, refl, refl, refl, refl)
 
 -- a fresh record's bytes, and those of a record that drives
@@ -128,7 +123,7 @@ driving-bytes = recordOf (started freshMotor (To (origin + 5)))
 round-trip :
     (recordOf (motorOf fresh-bytes) ≡ fresh-bytes) × (recordOf (motorOf driving-bytes) ≡ driving-bytes)
     × (length fresh-bytes ≡ 64)
-unfolding fresh-bytes driving-bytes recordOf motorOf part word wordBytes placeOf wordOf started towards speedNumbered freshMotor
+unfolding computing-motor fresh-bytes driving-bytes
 round-trip = (refl, refl, refl)
 
 -- the verdict on a record with some bytes written over: the bytes, the place and whether it is sound
@@ -148,7 +143,7 @@ soundness :
     × (map (λ n. damaged fresh-bytes 27 n) ((0 ∷ 0 ∷ 0 ∷ 2 ∷ []) ∷ (2 ∷ []) ∷ (1 ∷ 2 ∷ []) ∷ (1 ∷ 1 ∷ 1 ∷ []) ∷ (1 ∷ 1 ∷ 0 ∷ 3 ∷ []) ∷ []) ≡ true ∷ false ∷ false ∷ false ∷ false ∷ [])
     × (map (λ n. damaged fresh-bytes 31 (n ∷ [])) (0x80 ∷ 0x40 ∷ 0x20 ∷ 0xc0 ∷ 1 ∷ []) ≡ true ∷ true ∷ true ∷ false ∷ false ∷ [])
     × (map (λ at. damaged fresh-bytes at (1 ∷ [])) (32 ∷ 33 ∷ 34 ∷ 35 ∷ 36 ∷ 39 ∷ 40 ∷ 43 ∷ 44 ∷ 63 ∷ []) ≡ false ∷ false ∷ false ∷ false ∷ false ∷ false ∷ false ∷ false ∷ false ∷ false ∷ [])
-unfolding damaged fresh-bytes put part soundRecord soundMotor inRange limitsInRange speedsInRange wiringInRange setupInRange driveInRange atRest underWay aimRight blocked active room edge allZero recordOf motorOf word wordBytes placeOf wordOf freshMotor
+unfolding computing-motor damaged fresh-bytes
 soundness = (refl, refl, refl, refl, refl, refl, refl, refl, refl, refl, refl, refl)
 
 -- Of a driving record: end flags 0, A = 1, a pulse of room, no active enabled switch ahead, a target strictly ahead or, for
@@ -163,5 +158,5 @@ driving-soundness :
     × (map (λ n. damaged driving-bytes 34 (wordBytes 2 n)) (999 ∷ 1000 ∷ []) ≡ true ∷ false ∷ [])
     × (map (λ n. damaged driving-bytes 36 (wordBytes 4 n)) (0 ∷ 1 ∷ 5000000 ∷ 5000001 ∷ []) ≡ false ∷ true ∷ true ∷ false ∷ [])
     × (soundRecord [] ≡ false) × (soundRecord (driving-bytes ++ (0 ∷ [])) ≡ false)
-unfolding damaged driving-bytes put part soundRecord soundMotor inRange limitsInRange speedsInRange wiringInRange setupInRange driveInRange atRest underWay aimRight blocked active room edge allZero recordOf motorOf word wordBytes placeOf wordOf started towards speedNumbered freshMotor
+unfolding computing-motor damaged driving-bytes
 driving-soundness = (refl, refl, refl, refl, refl, refl, refl, refl, refl, refl, refl, refl)

@@ -1,0 +1,58 @@
+-- The table's definitions computed on cases: the fresh table, where things stand, and what makes a table unsound.
+use mathlib.Core.Path.{_≡_, refl}
+use mathlib.Core.List.{List, [], _∷_, _++_, map}
+use mathlib.Core.Bool.{Bool, true, false}
+use Prim.Native.Nat.{ℕ}
+use lib.ListN.{length, drop, replicate}
+use Rattle.digits.specs.Bytes.{part, put}
+use Rattle.digits.specs.Places.{origin, cw}
+use Rattle.motor.specs.declared.Course.the-variants.{Along}
+use Rattle.motor.specs.declared.Motor.{Motor}
+use Rattle.motor.specs.Record.{freshMotor, withPlace}
+use Rattle.motor.specs.Drives.{started}
+use Rattle.table.specs.Layout.{mode, allReply, errors, withMode, withAllReply, withErrors, recordAt, motorAt, withMotor, withMotors, freshTable}
+use Rattle.table.specs.Sound.{soundTable}
+use Rattle.table.specs.Computing.{computing-table}
+
+-- Fresh, byte by byte: a head of zeros, and a record whose numbers are document 01's: position 0, limits +1,000,000
+-- (000F4240h) and -1,000,000 (FFF0BDC0h), 1000 (3E8h), 800 (320h), 50 (32h), M, 01110000, contacts open, SETMT 1100, stopped.
+fresh :
+    (length freshTable ≡ 1088) × (part freshTable 0 64 ≡ replicate 64 0) × (recordAt freshTable 0 ≡ recordAt freshTable 15)
+    × (part freshTable 64 32
+    ≡ 0 ∷ 0 ∷ 0 ∷ 0 ∷ 0x40 ∷ 0x42 ∷ 0x0f ∷ 0x00 ∷ 0xc0 ∷ 0xbd ∷ 0xf0 ∷ 0xff ∷ 0xe8 ∷ 0x03 ∷ 0 ∷ 0 ∷ 0x20 ∷ 0x03 ∷ 0 ∷ 0 ∷ 50 ∷ 0 ∷ 0 ∷ 0 ∷ 1 ∷ 0x70 ∷ 0 ∷ 1 ∷ 1 ∷ 0 ∷ 0 ∷ 0 ∷ [])
+    × (part freshTable 96 32 ≡ replicate 32 0) × (soundTable freshTable ≡ true)
+unfolding computing-table
+fresh = (refl, refl, refl, refl, refl, refl)
+
+-- a motor is read where it was written, the neighbours and the head are as they were, and the table is as long
+written : List ℕ
+written = withMotor freshTable 11 (withPlace freshMotor (origin))
+
+away : List ℕ
+away = withMotor freshTable 11 (started freshMotor (Along cw))
+
+placed :
+    (written ≡ freshTable) × (motorAt away 11 ≡ started freshMotor (Along cw)) × (motorAt away 10 ≡ freshMotor)
+    × (motorAt away 12 ≡ freshMotor) × (part away 800 8 ≡ 1 ∷ 0 ∷ 0 ∷ 0 ∷ 0x20 ∷ 0x03 ∷ 0 ∷ 0 ∷ []) × (length away ≡ 1088)
+    × (part away 0 768 ≡ part freshTable 0 768) × (part away 832 256 ≡ part freshTable 832 256) × (soundTable away ≡ true)
+    × (withMotors away (λ m. freshMotor) ≡ freshTable) × (withMotors away (λ m. m) ≡ away)
+unfolding computing-table written away
+placed = (refl, refl, refl, refl, refl, refl, refl, refl, refl, refl, refl)
+
+-- the head's three fields stand at bytes 0, 1 and 2
+head :
+    (mode (1 ∷ 2 ∷ 3 ∷ []) ≡ 1) × (allReply (1 ∷ 2 ∷ 3 ∷ []) ≡ 2) × (errors (1 ∷ 2 ∷ 3 ∷ []) ≡ 3)
+    × (withErrors (withAllReply (withMode (0 ∷ 0 ∷ 0 ∷ 0 ∷ []) 1) 1) 15 ≡ 1 ∷ 1 ∷ 15 ∷ 0 ∷ [])
+unfolding computing-table
+head = (refl, refl, refl, refl)
+
+-- a table of a wrong length, one of all FFh, a head byte out of range, and a byte of any record that must be zero
+unsound :
+    (map (λ t. soundTable t) ([] ∷ drop 1 freshTable ∷ (freshTable ++ (0 ∷ [])) ∷ replicate 1088 255 ∷ replicate 1088 0 ∷ [])
+    ≡ false ∷ false ∷ false ∷ false ∷ false ∷ [])
+    × (map (λ at. soundTable (put freshTable at (1 ∷ []))) (0 ∷ 1 ∷ 2 ∷ 3 ∷ 63 ∷ 108 ∷ 127 ∷ 1068 ∷ 1087 ∷ [])
+    ≡ true ∷ true ∷ true ∷ false ∷ false ∷ false ∷ false ∷ false ∷ false ∷ [])
+    × (map (λ b. soundTable (put freshTable 0 b)) ((2 ∷ []) ∷ (1 ∷ 2 ∷ []) ∷ (1 ∷ 1 ∷ 15 ∷ []) ∷ (1 ∷ 1 ∷ 16 ∷ []) ∷ [])
+    ≡ false ∷ false ∷ true ∷ false ∷ [])
+unfolding computing-table
+unsound = (refl, refl, refl)
