@@ -1,3 +1,3 @@
+pub mod Cases
 pub mod Words
 pub mod Signed
-pub mod Cases

@@ -59,13 +59,14 @@ pub count-cw : (n : ℕ) → n < 2147483648 → toZ w32 (countOf cw n) ≡ pos n
 unfolding countOf
 count-cw n h = rw (lt-ltb n 2147483648 h) refl
 
-pub count-ccw : (n : ℕ) → n < 2147483648 → toZ w32 (countOf ccw n) ≡ negℤ (pos n)
+ccw-word : (n : ℕ) → n < 2147483647 → countOf ccw (suc n) ≡ 4294967296 - suc n
 unfolding countOf
-count-ccw zero h = refl
+ccw-word n h = omega arith
+
+pub count-ccw : (n : ℕ) → n < 2147483648 → toZ w32 (countOf ccw n) ≡ negℤ (pos n)
+count-ccw zero h = unfold countOf in refl
 count-ccw (suc n) h =
-    let e : (4294967296 - suc n) % 4294967296 ≡ 4294967296 - suc n = mod-eq-of-lt (omega arith) in
-    rw (e, le-ltb (4294967296 - suc n) 2147483648 (omega arith))
-    (ap negsuc (omega arith))
+    rw (ccw-word n (omega arith), le-ltb (4294967296 - suc n) 2147483648 (omega arith)) (ap negsuc (omega arith))
 
 -- The same of the four bytes that stand in the pulse buffer.
 count-fits : (going n : ℕ) → n < 2147483648 → countOf going n < 4294967296

@@ -19,7 +19,12 @@ local-mode =
     says "SCANP0" 4 "" ∷ says "PS0+9999999999" 4 "" ∷ says "SPDM0" 4 "" ∷ says "SPC00" 4 "" ∷ says "ALL_REP EN" 4 "" ∷ says "REL0+0" 4 ""
     ∷ says "ERRF?" 0 "08" ∷ says "ERR?" 0 "OTHER ERROR" ∷ says "scanp0" 1 "" ∷ says "ERR?" 0 "COMMAND ERROR" ∷ says "ERRC4" 3 ""
     ∷ says "ERRF?" 0 "0D" ∷ says "ERRC0" 0 "" ∷ says "ERR?" 0 "PARAMETER ERROR" ∷ says "SSTP0" 0 "" ∷ says "AESTP" 0 ""
-    ∷ says "ALL_REP?" 0 "DS" ∷ says "LOC" 0 "" ∷ says "STSF?" 0 "LFS000+0000000" ∷ says "ERRC" 0 "" ∷ says "ERR?" 0 "NO ERROR" ∷ []
+    ∷ says "ALL_REP?" 0 "DS" ∷ says "LOC" 0 "" ∷ says "STSF?" 0 "LFS000+0000000" ∷ says "ERRC" 0 "" ∷ says "ERR?" 0 "NO ERROR" ∷ says "SCANP0" 4 "" ∷ says "" 1 ""
+    ∷ says "ERRC3" 0 "" ∷ says "ERRF?" 0 "01" ∷ []
+
+local-mode-checked : seen fresh local-mode ≡ map stated local-mode
+unfolding computing-urqolina local-mode fresh after seen stated
+local-mode-checked = refl
 
 -- In remote mode the value comes before busy, busy before the target's range, and that before the motor's own causes. ABS to
 -- the present position and REL 0 meet no check after busy; SPC knows no busy and needs a drive.
@@ -32,6 +37,10 @@ refusals =
     ∷ says "JOGPE" 0 "" ∷ says "ESTPE" 0 "" ∷ says "SETMTE0000" 0 "" ∷ says "RELE+100" 3 "" ∷ says "SCANNE" 4 "" ∷ says "ABSE+2147483640" 0 ""
     ∷ says "RELE-0" 0 "" ∷ says "STSE?" 0 "RES880+2147483640" ∷ says "ERRF?" 0 "0E" ∷ says "ERR?" 0 "MCC06 BUSY ERROR" ∷ []
 
+refusals-checked : seen fresh refusals ≡ map stated refusals
+unfolding computing-urqolina refusals fresh after seen stated
+refusals-checked = refl
+
 -- With all-reply on every line is answered: a read with its own reply, the others and refusals with their text; as it is
 -- after the command.
 all-reply : List Step
@@ -39,6 +48,10 @@ all-reply =
     says "REM" 0 "" ∷ says "ALL_REP EN" 0 "OK" ∷ says "ALL_REP?" 0 "EN" ∷ says "SCANP3" 0 "OK" ∷ says "SCANP3" 2 "MCC06 BUSY ERROR"
     ∷ says "PS0+2147483648" 3 "PARAMETER ERROR" ∷ says "X" 1 "COMMAND ERROR" ∷ says "SPC0800" 4 "NG" ∷ says "ASSTP" 0 "OK" ∷ says "LOC" 0 "OK"
     ∷ says "ALL_REP DS" 4 "NG" ∷ says "REM" 0 "OK" ∷ says "ALL_REP DS" 0 "" ∷ says "X" 1 "" ∷ says "ALL_REP?" 0 "DS" ∷ []
+
+all-reply-checked : seen fresh all-reply ≡ map stated all-reply
+unfolding computing-urqolina all-reply fresh after seen stated
+all-reply-checked = refl
 
 -- An accepted setting reads back with its value, and stands in its bytes.
 settings : List Step
@@ -51,6 +64,10 @@ settings =
     ∷ says "SPDH?A" 0 "5000000" ∷ says "SPDM?A" 0 "000001" ∷ says "SPDL?A" 0 "000123" ∷ says "SETLS?A" 0 "11010101" ∷ says "SETMT?A" 0 "1002"
     ∷ says "STSA?" 0 "RASD00-0000012" ∷ holds 704 (0xf4 ∷ 0xff ∷ 0xff ∷ 0xff ∷ 0xff ∷ 0xff ∷ 0xff ∷ 0x7f ∷ 1 ∷ 0 ∷ 0 ∷ 0x80 ∷ []) ∷ []
 
+settings-checked : seen fresh settings ≡ map stated settings
+unfolding computing-urqolina settings fresh after seen stated
+settings-checked = refl
+
 -- A reading is taken in both modes, replaces the contacts, and ends a drive by the switch of its direction alone. CCW counts
 -- are negative.
 readings : List Step
@@ -59,12 +76,20 @@ readings =
     ∷ reads 2 3 0 ∷ says "STS2?" 0 "L2S320-0000004" ∷ ticks 2 ccw 0 ∷ reads 16 0 5 ∷ reads 2 8 5 ∷ reads 4294967295 4294967295 5
     ∷ reads 15 7 0 ∷ says "STSF?" 0 "LFS700+0000000" ∷ []
 
-pub conversations : List (List Step)
-conversations = local-mode ∷ refusals ∷ all-reply ∷ settings ∷ readings ∷ []
+readings-checked : seen fresh readings ≡ map stated readings
+unfolding computing-urqolina readings fresh after seen stated
+readings-checked = refl
 
-conversed : map (seen fresh) conversations ≡ map (map stated) conversations
-unfolding computing-urqolina conversations local-mode refusals all-reply settings readings fresh after seen stated
-conversed = refl
+-- A stop of one channel leaves the drive of another; ASSTP and AESTP stop all that drive and leave the end flags of the rest.
+stops : List Step
+stops =
+    says "REM" 0 "" ∷ says "SCANP0" 0 "" ∷ says "SCANN1" 0 "" ∷ says "SCANPF" 0 "" ∷ says "SSTP0" 0 "" ∷ says "STS1?" 0 "R1N003+0000000"
+    ∷ says "ESTPF" 0 "" ∷ says "AESTP" 0 "" ∷ says "STS0?" 0 "R0S040+0000000" ∷ says "STS1?" 0 "R1S080+0000000" ∷ says "STSF?" 0 "RFS080+0000000"
+    ∷ says "JOGN1" 0 "" ∷ says "ASSTP" 0 "" ∷ says "STS1?" 0 "R1S040+0000000" ∷ says "STSF?" 0 "RFS080+0000000" ∷ says "STS2?" 0 "R2S000+0000000" ∷ []
+
+stops-checked : seen fresh stops ≡ map stated stops
+unfolding computing-urqolina stops fresh after seen stated
+stops-checked = refl
 
 -- Inputs that no call may take: tables of 0, 1,087 and 1,089 bytes and one of all FFh, buffers too short and too long. The
 -- sizes come before the table, and nothing is changed anywhere.
