@@ -1,7 +1,7 @@
 -- To compute lines and orders down to numbers and bytes, a statement says `unfolding computing-line`: it opens every
 -- definition that is otherwise shut. It says nothing itself.
 use Rattle.digits.specs.Computing.{computing-digits}
-use Rattle.line.specs.Reading.{readChannel, readNumber, readSigned, readDigit, readQuestion, readFour, readZeroThree, readFields}
+use Rattle.line.specs.Shapes.{readChannel, readNumber, readSigned, readDigit, readQuestion, readFour, readZeroThree, readFields}
 use Rattle.line.specs.Forms.{asRow, forms, firstForm, orderOf}
 
 unfoldable pub computing-line : Unit {0}

@@ -22,7 +22,7 @@ use Rattle.line.specs.declared.HeadQuestion.{HeadQuestion}
 use Rattle.line.specs.declared.HeadQuestion.the-variants.{AskAllReply, AskFlags, AskError}
 use Rattle.line.specs.declared.Parsed.{Parsed}
 use Rattle.line.specs.declared.Parsed.the-variants.{Is, Nothing}
-use Rattle.line.specs.Reading.{Got, got, absent, Field, channel, signed, number, digit, question, four, zeroThree, noFields, readFields}
+use Rattle.line.specs.Shapes.{Got, got, absent, Field, alone, x, x±d, xd, xDYYY0yyy, xABCD, x?, e, noFields, readFields}
 
 -- a form: a word, the fields after it, and the order that it is
 pub record Row : Type 0 where
@@ -56,67 +56,67 @@ hspd = 2
 -- `ABSx±d`, `RELx±d`, `SCANPx`, `SCANNx`, `JOGPx`, `JOGNx` (P is CW; JOG is REL by +1 or -1).
 abbrev pub startRows : List Row
 startRows =
-    row "ABS" (channel ∷ signed ∷ []) (starting (λ f. Abs (f .written)))
-    ∷ row "REL" (channel ∷ signed ∷ []) (starting (λ f. Rel (f .written)))
-    ∷ row "SCANP" (channel ∷ []) (starting (λ f. Scan cw))
-    ∷ row "SCANN" (channel ∷ []) (starting (λ f. Scan ccw))
-    ∷ row "JOGP" (channel ∷ []) (starting (λ f. Jog cw))
-    ∷ row "JOGN" (channel ∷ []) (starting (λ f. Jog ccw))
+    row "ABS" x±d (starting (λ f. Abs (f .written)))
+    ∷ row "REL" x±d (starting (λ f. Rel (f .written)))
+    ∷ row "SCANP" x (starting (λ f. Scan cw))
+    ∷ row "SCANN" x (starting (λ f. Scan ccw))
+    ∷ row "JOGP" x (starting (λ f. Jog cw))
+    ∷ row "JOGN" x (starting (λ f. Jog ccw))
     ∷ []
 
 -- `SSTPx`, `ESTPx`, `ASSTP`, `AESTP`; `SPCxd`. "SSTP and ASSTP with SSEND, ESTP and AESTP with ESEND": 40h and 80h.
 abbrev pub stopRows : List Row
 stopRows =
-    row "SSTP" (channel ∷ []) (λ f. Stop (f .channel) 0x40)
-    ∷ row "ESTP" (channel ∷ []) (λ f. Stop (f .channel) 0x80)
-    ∷ row "ASSTP" [] (λ f. StopAll 0x40)
-    ∷ row "AESTP" [] (λ f. StopAll 0x80)
-    ∷ row "SPC" (channel ∷ number ∷ []) (λ f. ChangeSpeed (f .channel) (f .written .digits))
+    row "SSTP" x (λ f. Stop (f .channel) 0x40)
+    ∷ row "ESTP" x (λ f. Stop (f .channel) 0x80)
+    ∷ row "ASSTP" alone (λ f. StopAll 0x40)
+    ∷ row "AESTP" alone (λ f. StopAll 0x80)
+    ∷ row "SPC" xd (λ f. ChangeSpeed (f .channel) (f .written .digits))
     ∷ []
 
 -- `PSx±d`, `FLx±d`, `BLx±d`; `SPDHx`, `SPDMx`, `SPDLx` select; the same with d set; `SETLSxDYYY0yyy`, `SETMTxABCD`.
 abbrev pub settingRows : List Row
 settingRows =
-    row "PS" (channel ∷ signed ∷ []) (setting (λ f. Preset (f .written)))
-    ∷ row "FL" (channel ∷ signed ∷ []) (setting (λ f. SetCwLimit (f .written)))
-    ∷ row "BL" (channel ∷ signed ∷ []) (setting (λ f. SetCcwLimit (f .written)))
-    ∷ row "SPDH" (channel ∷ []) (setting (λ f. Select hspd))
-    ∷ row "SPDM" (channel ∷ []) (setting (λ f. Select mspd))
-    ∷ row "SPDL" (channel ∷ []) (setting (λ f. Select lspd))
-    ∷ row "SPDH" (channel ∷ number ∷ []) (setting (λ f. SetSpeed hspd (f .written .digits)))
-    ∷ row "SPDM" (channel ∷ number ∷ []) (setting (λ f. SetSpeed mspd (f .written .digits)))
-    ∷ row "SPDL" (channel ∷ number ∷ []) (setting (λ f. SetSpeed lspd (f .written .digits)))
-    ∷ row "SETLS" (channel ∷ four ∷ zeroThree ∷ []) (setting (λ f. SetSwitches (f .first) (f .second)))
-    ∷ row "SETMT" (channel ∷ four ∷ []) (setting (λ f. SetMotor (f .first)))
+    row "PS" x±d (setting (λ f. Preset (f .written)))
+    ∷ row "FL" x±d (setting (λ f. SetCwLimit (f .written)))
+    ∷ row "BL" x±d (setting (λ f. SetCcwLimit (f .written)))
+    ∷ row "SPDH" x (setting (λ f. Select hspd))
+    ∷ row "SPDM" x (setting (λ f. Select mspd))
+    ∷ row "SPDL" x (setting (λ f. Select lspd))
+    ∷ row "SPDH" xd (setting (λ f. SetSpeed hspd (f .written .digits)))
+    ∷ row "SPDM" xd (setting (λ f. SetSpeed mspd (f .written .digits)))
+    ∷ row "SPDL" xd (setting (λ f. SetSpeed lspd (f .written .digits)))
+    ∷ row "SETLS" xDYYY0yyy (setting (λ f. SetSwitches (f .first) (f .second)))
+    ∷ row "SETMT" xABCD (setting (λ f. SetMotor (f .first)))
     ∷ []
 
 -- `PS?x`, `FL?x`, `BL?x`, `SPD?x`, `SPDH?x`, `SPDM?x`, `SPDL?x`, `SETLS?x`, `SETMT?x`, `STSx?`.
 abbrev pub questionRows : List Row
 questionRows =
-    row "PS?" (channel ∷ []) (asking AskPosition)
-    ∷ row "FL?" (channel ∷ []) (asking AskCwLimit)
-    ∷ row "BL?" (channel ∷ []) (asking AskCcwLimit)
-    ∷ row "SPD?" (channel ∷ []) (asking AskSelected)
-    ∷ row "SPDH?" (channel ∷ []) (asking (AskSpeed hspd))
-    ∷ row "SPDM?" (channel ∷ []) (asking (AskSpeed mspd))
-    ∷ row "SPDL?" (channel ∷ []) (asking (AskSpeed lspd))
-    ∷ row "SETLS?" (channel ∷ []) (asking AskSwitches)
-    ∷ row "SETMT?" (channel ∷ []) (asking AskMotor)
-    ∷ row "STS" (channel ∷ question ∷ []) (asking AskStatus)
+    row "PS?" x (asking AskPosition)
+    ∷ row "FL?" x (asking AskCwLimit)
+    ∷ row "BL?" x (asking AskCcwLimit)
+    ∷ row "SPD?" x (asking AskSelected)
+    ∷ row "SPDH?" x (asking (AskSpeed hspd))
+    ∷ row "SPDM?" x (asking (AskSpeed mspd))
+    ∷ row "SPDL?" x (asking (AskSpeed lspd))
+    ∷ row "SETLS?" x (asking AskSwitches)
+    ∷ row "SETMT?" x (asking AskMotor)
+    ∷ row "STS" x? (asking AskStatus)
     ∷ []
 
 -- `LOC`, `REM`, `ALL_REP EN`, `ALL_REP DS`, `ALL_REP?`, `ERRF?`, `ERR?`, `ERRC`, `ERRCe` (e one digit).
 abbrev pub headRows : List Row
 headRows =
-    row "LOC" [] (λ f. Mode 0)
-    ∷ row "REM" [] (λ f. Mode 1)
-    ∷ row "ALL_REP EN" [] (λ f. AllReply 1)
-    ∷ row "ALL_REP DS" [] (λ f. AllReply 0)
-    ∷ row "ALL_REP?" [] (λ f. AskHead AskAllReply)
-    ∷ row "ERRF?" [] (λ f. AskHead AskFlags)
-    ∷ row "ERR?" [] (λ f. AskHead AskError)
-    ∷ row "ERRC" [] (λ f. ClearErrors)
-    ∷ row "ERRC" (digit ∷ []) (λ f. ClearError (f .written .digits))
+    row "LOC" alone (λ f. Mode 0)
+    ∷ row "REM" alone (λ f. Mode 1)
+    ∷ row "ALL_REP EN" alone (λ f. AllReply 1)
+    ∷ row "ALL_REP DS" alone (λ f. AllReply 0)
+    ∷ row "ALL_REP?" alone (λ f. AskHead AskAllReply)
+    ∷ row "ERRF?" alone (λ f. AskHead AskFlags)
+    ∷ row "ERR?" alone (λ f. AskHead AskError)
+    ∷ row "ERRC" alone (λ f. ClearErrors)
+    ∷ row "ERRC" e (λ f. ClearError (f .written .digits))
     ∷ []
 
 -- a line has a row's form when it begins with the word, the fields follow, and nothing follows them

@@ -1,3 +1,3 @@
-pub mod Reading
+pub mod Shapes
 pub mod Forms
 pub mod Computing

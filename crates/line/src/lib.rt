@@ -25,39 +25,61 @@ pub struct Fields {
 
 // Starts. A direction is 1 for CW (P) and 2 for CCW (N).
 pub enum Start {
+    // ABSx±d
     Abs(Written),
+    // RELx±d
     Rel(Written),
+    // SCANPx, SCANNx
     Scan(u8),
+    // JOGPx, JOGNx
     Jog(u8),
 }
 
 // Settings of a channel. A speed is numbered 0 L, 1 M, 2 H.
 pub enum Setting {
+    // PSx±d
     Preset(Written),
+    // FLx±d
     SetCwLimit(Written),
+    // BLx±d
     SetCcwLimit(Written),
+    // SPDHx, SPDMx, SPDLx
     Select(u8),
+    // SPDHxd, SPDMxd, SPDLxd
     SetSpeed(u8, u64),
+    // SETLSxDYYY0yyy
     SetSwitches(Four, Four),
+    // SETMTxABCD
     SetMotor(Four),
 }
 
 // What is asked of a channel.
 pub enum Question {
+    // PS?x
     AskPosition,
+    // FL?x
     AskCwLimit,
+    // BL?x
     AskCcwLimit,
+    // SPD?x
     AskSelected,
+    // SPDH?x, SPDM?x, SPDL?x
     AskSpeed(u8),
+    // SETLS?x
     AskSwitches,
+    // SETMT?x
     AskMotor,
+    // STSx?
     AskStatus,
 }
 
 // What is asked of the head.
 pub enum HeadQuestion {
+    // ALL_REP?
     AskAllReply,
+    // ERRF?
     AskFlags,
+    // ERR?
     AskError,
 }
 
@@ -65,15 +87,22 @@ pub enum HeadQuestion {
 // byte that the head is to hold: 0 local, 1 remote; 0 off, 1 on.
 pub enum Order {
     Go(u8, Start),
+    // SSTPx, ESTPx
     Stop(u8, u8),
+    // ASSTP, AESTP
     StopAll(u8),
+    // SPCxd
     ChangeSpeed(u8, u64),
     Set(u8, Setting),
     Ask(u8, Question),
+    // LOC, REM
     Mode(u8),
+    // ALL_REP EN, ALL_REP DS
     AllReply(u8),
     AskHead(HeadQuestion),
+    // ERRC
     ClearErrors,
+    // ERRCe
     ClearError(u64),
 }
 

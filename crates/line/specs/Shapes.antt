@@ -1,4 +1,5 @@
--- Document 01, "Lines": the fields that a line is made of, each read off the front of the bytes that are left.
+-- Document 01, "Lines": the fields that a line is made of, each read off the front of the bytes that are left, and the shapes
+-- that they make.
 use Prim.Native.Nat.{ℕ, _+_, _-_}
 use mathlib.Core.List.{List, [], _∷_}
 use mathlib.Core.Bool.{Bool, true, false, _&&_, cond}
@@ -22,6 +23,31 @@ gotIf false f s = absent
 pub data Field : Type 0 where
   channel signed number digit question four zeroThree : Field
 
+-- what follows a word, as document 01 writes it
+abbrev pub alone : List Field
+alone = []
+
+abbrev pub x : List Field
+x = channel ∷ []
+
+abbrev pub x±d : List Field
+x±d = channel ∷ signed ∷ []
+
+abbrev pub xd : List Field
+xd = channel ∷ number ∷ []
+
+abbrev pub xDYYY0yyy : List Field
+xDYYY0yyy = channel ∷ four ∷ zeroThree ∷ []
+
+abbrev pub xABCD : List Field
+xABCD = channel ∷ four ∷ []
+
+abbrev pub x? : List Field
+x? = channel ∷ question ∷ []
+
+abbrev pub e : List Field
+e = digit ∷ []
+
 -- no field yet
 abbrev pub noFields : Fields
 noFields =
@@ -34,7 +60,7 @@ noFields =
 
 -- the fields with one more
 abbrev pub withChannel : Fields → ℕ → Fields
-withChannel f x = record { channel = x; written = f .written; first = f .first; second = f .second }
+withChannel f n = record { channel = n; written = f .written; first = f .first; second = f .second }
 
 abbrev pub withWritten : Fields → Bool → ℕ → Fields
 withWritten f minus n = record { channel = f .channel; written = record { minus = minus; digits = n }; first = f .first; second = f .second }
