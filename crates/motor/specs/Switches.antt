@@ -1,9 +1,9 @@
 -- Document 01, "Switches and room".
-use Prim.Native.Nat.{ℕ, _+_, _-_, min, max}
-use mathlib.Core.Bool.{Bool, true, false, _&&_, not, cond}
-use lib.Dec.{eqb, leb}
-use Rattle.digits.specs.Words.{bit, isSet}
-use Rattle.digits.specs.Places.{lowest, highest, ahead, cw, ccw}
+use Prim.Native.Nat.{ℕ, _+_, min, max}
+use mathlib.Core.Bool.{Bool, _&&_, _||_, not, cond}
+use lib.Dec.{eqb}
+use Rattle.digits.specs.Words.{isSet}
+use Rattle.digits.specs.Places.{lowest, highest, ahead, cw}
 use Rattle.motor.specs.declared.Wiring.{Wiring}
 use Rattle.motor.specs.declared.Motor.{Motor}
 
@@ -27,7 +27,7 @@ closed s w = isSet s (w .contacts)
 
 -- "A switch is *active* when its contact is closed and N.O., or open and N.C."
 unfoldable pub active : ℕ → Wiring → Bool
-active s w = cond (normallyClosed s w) (not (closed s w)) (closed s w)
+active s w = (closed s w && not (normallyClosed s w)) || (not (closed s w) && normallyClosed s w)
 
 -- an active enabled switch in a direction
 unfoldable pub blocked : ℕ → Motor → Bool
