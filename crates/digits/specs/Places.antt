@@ -1,7 +1,7 @@
 -- Positions as places. A signed number of the table is kept as its place: the number plus 2,147,483,648, which is never
 -- negative, so that room, distance and ranges are plain differences and orders. The law in proofs/Signed.antt ties a place
 -- to the language's own signed reading of the same bytes.
-use Prim.Native.Nat.{ℕ, _+_, _-_, _%_, _≤_}
+use Prim.Native.Nat.{ℕ, _+_, _-_, _%_}
 use mathlib.Core.Bool.{Bool, _&&_, cond}
 use lib.Dec.{leb, eqb}
 
@@ -9,32 +9,36 @@ use lib.Dec.{leb, eqb}
 abbrev pub origin : ℕ
 origin = 2147483648
 
--- Document 01: "Positions run from -2,147,483,647 to +2,147,483,647": the places of the two ends
+-- the place of -2,147,483,647
 abbrev pub lowest : ℕ
 lowest = 1
 
+-- the place of +2,147,483,647
 abbrev pub highest : ℕ
 highest = 4294967295
 
+-- "Positions run from -2,147,483,647 to +2,147,483,647 (003)."
 abbrev pub isPosition : ℕ → Bool
 isPosition p = leb lowest p && leb p highest
 
--- "signed ones are two's complement": the place of a four-byte word, and the word of a place. They are one shift by half
--- the range.
+-- "signed ones are two's complement": the place of a four-byte word
 unfoldable pub placeOf : ℕ → ℕ
 placeOf w = (w + 2147483648) % 4294967296
 
+-- "signed ones are two's complement": the four-byte word of a place. Both are one shift by half the range.
 unfoldable pub wordOf : ℕ → ℕ
 wordOf p = (p + 2147483648) % 4294967296
 
--- directions, as record byte 32 has them
+-- "0 stopped, 1 CW, 2 CCW": a direction is 1 for CW, towards the higher places
 abbrev pub cw : ℕ
 cw = 1
 
+-- and 2 for CCW, towards the lower ones
 abbrev pub ccw : ℕ
 ccw = 2
 
--- n pulses on from p in a direction. Below place 0 there is nothing: the difference ends there, and 0 is no position.
+-- "Position moves by them": n pulses on from p in a direction. Below place 0 there is nothing: the difference ends there,
+-- and 0 is no position.
 abbrev pub moved : ℕ → ℕ → ℕ → ℕ
 moved going p n = cond (eqb going cw) (p + n) (p - n)
 

@@ -3,7 +3,7 @@ use Prim.Native.Nat.{ℕ, zero, suc, _+_, _*_, _-_, _/_, _%_, _^_, max}
 use Prim.Native.String as S
 use Prim.Native.Char.{code}
 use mathlib.Core.List.{List, [], _∷_, _++_}
-use mathlib.Core.Bool.{Bool, true, false, _&&_, cond}
+use mathlib.Core.Bool.{Bool, true, false, _&&_, _||_, cond}
 use lib.Dec.{leb, ltb, eqb}
 use Rattle.digits.specs.Places.{origin, ahead, cw, ccw}
 
@@ -19,11 +19,11 @@ same [] (b ∷ t) = false
 same (a ∷ s) [] = false
 same (a ∷ s) (b ∷ t) = eqb a b && same s t
 
--- the byte is one of 0-9
+-- "digits": the byte is one of 0-9
 abbrev pub isDigit : ℕ → Bool
 isDigit b = leb 48 b && leb b 57
 
--- how many digits stand at the front
+-- how many digits stand at the front of a text
 unfoldable pub digitsAtFront : List ℕ → ℕ
 digitsAtFront [] = 0
 digitsAtFront (b ∷ s) = cond (isDigit b) (suc (digitsAtFront s)) 0
@@ -33,8 +33,17 @@ unfoldable pub valueFrom : ℕ → List ℕ → ℕ
 valueFrom n [] = n
 valueFrom n (b ∷ s) = valueFrom (10 * n + (b - 48)) s
 
+-- the number that digits write
 abbrev pub valueOf : List ℕ → ℕ
 valueOf s = valueFrom 0 s
+
+-- "x is one of 0-9, A-F": whether a byte is one
+abbrev pub isHex : ℕ → Bool
+isHex b = isDigit b || (leb 65 b && leb b 70)
+
+-- "x is one of 0-9, A-F": the number that such a byte stands for
+unfoldable pub hexValue : ℕ → ℕ
+hexValue b = cond (isDigit b) (b - 48) (b - 55)
 
 -- the last k digits of n
 unfoldable pub lastDigits : ℕ → ℕ → List ℕ
@@ -46,15 +55,15 @@ unfoldable pub powersUpTo : ℕ → ℕ → ℕ
 powersUpTo zero n = 0
 powersUpTo (suc k) n = powersUpTo k n + cond (leb (10 ^ suc k) n) 1 0
 
--- how many digits n has: at most ten, which every number here has
+-- how many digits n has: no number here has more than ten
 unfoldable pub digitCount : ℕ → ℕ
 digitCount n = suc (powersUpTo 9 n)
 
--- n in decimal, with at least k digits
+-- "at least 7 digits", "at least 6": n in decimal with at least k digits
 unfoldable pub decimal : ℕ → ℕ → List ℕ
 decimal k n = lastDigits (max k (digitCount n)) n
 
--- a place's position in decimal: "a sign (+ for 0)" and at least k digits
+-- "a sign (+ for 0) and at least 7 digits": the position of a place, with at least k digits
 unfoldable pub signedDecimal : ℕ → ℕ → List ℕ
 signedDecimal k p =
     cond (leb origin p) (43 ∷ decimal k (ahead cw origin p)) (45 ∷ decimal k (ahead ccw origin p))
@@ -63,13 +72,6 @@ signedDecimal k p =
 unfoldable pub hexDigit : ℕ → ℕ
 hexDigit n = cond (ltb n 10) (48 + n) (55 + n)
 
--- a byte as two hex digits
+-- "two hex digits": those of a byte
 unfoldable pub hexByte : ℕ → List ℕ
 hexByte n = hexDigit (n / 16) ∷ hexDigit (n % 16) ∷ []
-
--- the number of a hex digit in capitals, and whether a byte is one: "x is one of 0-9, A-F"
-abbrev pub isHex : ℕ → Bool
-isHex b = cond (isDigit b) true (leb 65 b && leb b 70)
-
-unfoldable pub hexValue : ℕ → ℕ
-hexValue b = cond (isDigit b) (b - 48) (b - 55)

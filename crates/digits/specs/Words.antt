@@ -4,17 +4,17 @@ use mathlib.Core.List.{List, [], _∷_}
 use mathlib.Core.Bool.{Bool, cond}
 use lib.Dec.{eqb}
 
--- the number that bytes stand for, the first byte lowest
+-- "little-endian": the number that bytes stand for, the first byte lowest
 unfoldable pub word : List ℕ → ℕ
 word [] = 0
 word (b ∷ s) = b + 256 * word s
 
--- the w bytes that a number is written in, the lowest first
+-- "little-endian": the w bytes that a number is written in, the lowest first
 unfoldable pub wordBytes : ℕ → ℕ → List ℕ
 wordBytes zero n = []
 wordBytes (suc w) n = n % 256 ∷ wordBytes w (n / 256)
 
--- bit k of a number: 0 or 1
+-- bit k of a number, 0 or 1; bit 0 is the lowest
 abbrev pub bit : ℕ → ℕ → ℕ
 bit k n = n / 2 ^ k % 2
 
@@ -22,9 +22,10 @@ bit k n = n / 2 ^ k % 2
 abbrev pub isSet : ℕ → ℕ → Bool
 isSet k n = eqb (bit k n) 1
 
--- the number with bit k set, and with bit k clear
+-- the number with bit k set
 unfoldable pub withBit : ℕ → ℕ → ℕ
 withBit k n = cond (isSet k n) n (n + 2 ^ k)
 
+-- the number with bit k clear
 unfoldable pub withoutBit : ℕ → ℕ → ℕ
 withoutBit k n = cond (isSet k n) (n - 2 ^ k) n

@@ -30,26 +30,31 @@ pub record Row : Type 0 where
   pub fields : List Field
   pub order : Fields → Order
 
+-- a row, its word quoted
 abbrev pub row : S.String → List Field → (Fields → Order) → Row
 row w k o = record { word = bytes w; fields = k; order = o }
 
--- an order that names the channel x
+-- a start of channel x
 abbrev pub starting : (Fields → Start) → Fields → Order
 starting s f = Go (f .channel) (s f)
 
+-- a setting of channel x
 abbrev pub setting : (Fields → Setting) → Fields → Order
 setting s f = Set (f .channel) (s f)
 
+-- a question about channel x
 abbrev pub asking : Question → Fields → Order
 asking q f = Ask (f .channel) q
 
--- the speeds' numbers: "0 L, 1 M, 2 H"
+-- "0 L"
 abbrev pub lspd : ℕ
 lspd = 0
 
+-- "1 M"
 abbrev pub mspd : ℕ
 mspd = 1
 
+-- "2 H"
 abbrev pub hspd : ℕ
 hspd = 2
 
@@ -119,27 +124,29 @@ headRows =
     ∷ row "ERRC" e (λ f. ClearError (f .written .digits))
     ∷ []
 
--- a line has a row's form when it begins with the word, the fields follow, and nothing follows them
+-- a line is read whole: nothing follows the fields
 abbrev pub whole : (Fields → Order) → Got → Parsed
 whole o (got f []) = Is (o f)
 whole o (got f (b ∷ s)) = Nothing
 whole o absent = Nothing
 
+-- a line has a row's form when it begins with the word, the fields follow, and nothing follows them
 unfoldable pub asRow : Row → List ℕ → Parsed
 asRow r s =
     cond (same (take (length (r .word)) s) (r .word))
     (whole (r .order) (readFields (r .fields) noFields (drop (length (r .word)) s)))
     Nothing
 
--- all the forms
+-- all the forms of document 01
 unfoldable pub forms : List Row
 forms = startRows ++ (stopRows ++ (settingRows ++ (questionRows ++ headRows)))
 
--- the order by the first row whose form the line has
+-- what was found, or else what is found later
 abbrev pub orElse : Parsed → Parsed → Parsed
 orElse (Is o) later = Is o
 orElse Nothing later = later
 
+-- the order by the first row whose form the line has
 unfoldable pub firstForm : List Row → List ℕ → Parsed
 firstForm [] s = Nothing
 firstForm (r ∷ rs) s = orElse (asRow r s) (firstForm rs s)

@@ -15,6 +15,7 @@ pub data Got : Type 0 where
   got : Fields → List ℕ → Got
   absent : Got
 
+-- a field that is there if a test holds
 abbrev pub gotIf : Bool → Fields → List ℕ → Got
 gotIf true f s = got f s
 gotIf false f s = absent
@@ -23,28 +24,35 @@ gotIf false f s = absent
 pub data Field : Type 0 where
   channel signed number digit question four zeroThree : Field
 
--- what follows a word, as document 01 writes it
+-- What follows a word, each shape named as document 01 writes it. Nothing, as in `ASSTP`:
 abbrev pub alone : List Field
 alone = []
 
+-- as in `SCANPx`
 abbrev pub x : List Field
 x = channel ∷ []
 
+-- as in `ABSx±d`
 abbrev pub x±d : List Field
 x±d = channel ∷ signed ∷ []
 
+-- as in `SPCxd`
 abbrev pub xd : List Field
 xd = channel ∷ number ∷ []
 
+-- as in `SETLSxDYYY0yyy`
 abbrev pub xDYYY0yyy : List Field
 xDYYY0yyy = channel ∷ four ∷ zeroThree ∷ []
 
+-- as in `SETMTxABCD`
 abbrev pub xABCD : List Field
 xABCD = channel ∷ four ∷ []
 
+-- as in `STSx?`
 abbrev pub x? : List Field
 x? = channel ∷ question ∷ []
 
+-- as in `ERRCe`
 abbrev pub e : List Field
 e = digit ∷ []
 
@@ -58,16 +66,19 @@ noFields =
       second = record { a = 0; b = 0; c = 0; d = 0 };
     }
 
--- the fields with one more
+-- the fields with the channel x
 abbrev pub withChannel : Fields → ℕ → Fields
 withChannel f n = record { channel = n; written = f .written; first = f .first; second = f .second }
 
+-- the fields with a number, by its sign and the value of its digits
 abbrev pub withWritten : Fields → Bool → ℕ → Fields
 withWritten f minus n = record { channel = f .channel; written = record { minus = minus; digits = n }; first = f .first; second = f .second }
 
+-- the fields with four digits, DYYY or ABCD
 abbrev pub withFirst : Fields → Four → Fields
 withFirst f q = record { channel = f .channel; written = f .written; first = q; second = f .second }
 
+-- the fields with four digits more, 0yyy
 abbrev pub withSecond : Fields → Four → Fields
 withSecond f q = record { channel = f .channel; written = f .written; first = f .first; second = q }
 
@@ -91,20 +102,24 @@ readSigned f (b ∷ s) = cond (eqb b 43) (readNumber false f s) (cond (eqb b 45)
 unfoldable pub readDigit : Fields → List ℕ → Got
 readDigit f s = gotIf (leb 1 (digitsAtFront s)) (withWritten f false (getD s 0 48 - 48)) (drop 1 s)
 
+-- "`STSx?`": the question mark
 unfoldable pub readQuestion : Fields → List ℕ → Got
 readQuestion f [] = absent
 readQuestion f (b ∷ s) = gotIf (eqb b 63) f s
 
--- "In SETLS and SETMT each letter after x is one decimal digit and the 0 is itself"
+-- the four digits at the front of a text
 abbrev pub fourOf : List ℕ → Four
 fourOf s = record { a = getD s 0 48 - 48; b = getD s 1 48 - 48; c = getD s 2 48 - 48; d = getD s 3 48 - 48 }
 
+-- "In SETLS and SETMT each letter after x is one decimal digit"
 unfoldable pub readFour : Fields → List ℕ → Got
 readFour f s = gotIf (leb 4 (digitsAtFront s)) (withFirst f (fourOf s)) (drop 4 s)
 
+-- "and the 0 is itself"
 unfoldable pub readZeroThree : Fields → List ℕ → Got
 readZeroThree f s = gotIf (leb 4 (digitsAtFront s) && eqb (getD s 0 0) 48) (withSecond f (fourOf s)) (drop 4 s)
 
+-- a field of each kind
 abbrev pub readField : Field → Fields → List ℕ → Got
 readField channel f s = readChannel f s
 readField signed f s = readSigned f s
@@ -114,11 +129,12 @@ readField question f s = readQuestion f s
 readField four f s = readFour f s
 readField zeroThree f s = readZeroThree f s
 
--- fields one after the other
+-- what comes next, where the field before it is there
 abbrev pub onward : Got → (Fields → List ℕ → Got) → Got
 onward (got f s) next = next f s
 onward absent next = absent
 
+-- the fields of a shape, one after the other
 unfoldable pub readFields : List Field → Fields → List ℕ → Got
 readFields [] f s = got f s
 readFields (k ∷ ks) f s = onward (readField k f s) (λ g t. readFields ks g t)

@@ -15,25 +15,28 @@ use Rattle.motor.specs.Record.{withWiring, withDrive, standing}
 use Rattle.motor.specs.Switches.{blocked, room}
 use Rattle.motor.specs.Sound.{driving}
 
--- "end flags: 80h ESEND, 40h SSEND, 20h LSEND"
+-- "80h ESEND"
 abbrev pub esend : ℕ
 esend = 0x80
 
+-- "40h SSEND"
 abbrev pub ssend : ℕ
 ssend = 0x40
 
+-- "20h LSEND"
 abbrev pub lsend : ℕ
 lsend = 0x20
 
--- "selected speed: 0 L, 1 M, 2 H"
+-- "0 L, 1 M, 2 H": the speed with a number
 unfoldable pub speedNumbered : ℕ → Speeds → ℕ
 speedNumbered k s = cond (eqb k 0) (s .low) (cond (eqb k 1) (s .middle) (s .high))
 
+-- "the selected speed"
 abbrev pub selectedSpeed : Motor → ℕ
 selectedSpeed m = speedNumbered (m .speeds .selected) (m .speeds)
 
--- the course to n pulses from p in a direction: "ABS to the present position, REL 0 .. change nothing"; beyond the range;
--- or the place
+-- the course to the place n pulses from p in a direction: none for "ABS to the present position, REL 0"; beyond the
+-- positions' range; or to that place
 unfoldable pub courseTo : Motor → ℕ → ℕ → ℕ → Course
 courseTo m going p n =
     cond (eqb (moved going p n) (m .place)) Stay
@@ -51,14 +54,14 @@ hindrance m going =
     (cond (eqb (room going m) 0) NoRoom
     Done))
 
--- "busy, target out of range .., the other causes of 4"; a course that stays "passes through all checks down to busy .. and
--- then meets no later check"
+-- "target out of range .., the other causes of 4"; ABS to the present position and REL 0 "meet no later check"
 abbrev pub judgeCourse : Motor → Course → Verdict
 judgeCourse m Stay = Done
 judgeCourse m Beyond = OutOfRange
 judgeCourse m (To p) = hindrance m (towards m p)
 judgeCourse m (Along going) = hindrance m going
 
+-- "busy, target out of range (3, for REL and JOG, only on a stopped motor), the other causes of 4"
 unfoldable pub judgeStart : Motor → Course → Verdict
 judgeStart m c = cond (driving m) Busy (judgeCourse m c)
 
@@ -67,7 +70,7 @@ abbrev pub launched : Motor → ℕ → ℕ → ℕ → Motor
 launched m going kind target =
     withDrive m 0 (record { going = going; kind = kind; fraction = 0; speed = selectedSpeed m; target = target })
 
--- the motor after an accepted start
+-- the motor after an accepted start; "ABS to the present position, REL 0 .. are OK and change nothing"
 unfoldable pub started : Motor → Course → Motor
 started m Stay = m
 started m Beyond = m
@@ -82,20 +85,22 @@ endedWith flags m = withDrive m flags standing
 unfoldable pub stopped : ℕ → Motor → Motor
 stopped flags m = cond (driving m) (endedWith flags m) m
 
--- "SPC replaces the speed in force and keeps the fraction"; it is 4 on a stopped motor
+-- "4 .. SPC on a stopped motor"
 abbrev pub judgeSpeedChange : Motor → Verdict
 judgeSpeedChange m = cond (driving m) Done NotDriving
 
+-- "SPC replaces the speed in force and keeps the fraction."
 unfoldable pub speedChanged : Motor → ℕ → Motor
 speedChanged m v =
     withDrive m (m .ended)
     (record { going = m .drive .going; kind = m .drive .kind; fraction = m .drive .fraction; speed = v; target = m .drive .target })
 
--- "A switch reading replaces the contacts. If the channel drives and the switch of its direction is now active and enabled,
--- the drive ends at once with LSEND. HP ends nothing here."
+-- "A switch reading replaces the contacts."
 abbrev pub contacted : Motor → ℕ → Motor
 contacted m n = withWiring m (record { setls = m .wiring .setls; contacts = n })
 
+-- "If the channel drives and the switch of its direction is now active and enabled, the drive ends at once with LSEND. HP
+-- ends nothing here."
 unfoldable pub switchRead : Motor → ℕ → Motor
 switchRead m n =
     cond (driving m && blocked (m .drive .going) (contacted m n)) (endedWith lsend (contacted m n)) (contacted m n)

@@ -12,20 +12,23 @@ use Rattle.motor.specs.declared.Setup.{Setup}
 use Rattle.motor.specs.declared.Drive.{Drive}
 use Rattle.motor.specs.declared.Motor.{Motor}
 
--- what stands at an offset of a record: a byte, a number of two or four bytes, a signed number of four as its place
+-- the byte at an offset of a record
 abbrev pub byteAt : List ℕ → ℕ → ℕ
 byteAt b at = word (part b at 1)
 
+-- the number in the two bytes from an offset on
 abbrev pub shortAt : List ℕ → ℕ → ℕ
 shortAt b at = word (part b at 2)
 
+-- the number in the four bytes from an offset on
 abbrev pub longAt : List ℕ → ℕ → ℕ
 longAt b at = word (part b at 4)
 
+-- the place of the signed number in the four bytes from an offset on
 abbrev pub placeAt : List ℕ → ℕ → ℕ
 placeAt b at = placeOf (longAt b at)
 
--- "Record bytes": 0-3, 4-7, 8-11 "position, CW digital limit, CCW digital limit"
+-- 4-7, 8-11 "CW digital limit, CCW digital limit"
 abbrev pub limitsOf : List ℕ → Limits
 limitsOf b = record { cw = placeAt b 4; ccw = placeAt b 8 }
 
@@ -47,7 +50,8 @@ driveOf b =
     record
     { going = byteAt b 32; kind = byteAt b 33; fraction = shortAt b 34; speed = longAt b 36; target = placeAt b 40 }
 
--- the motor that a record holds; 31 "end flags: 80h ESEND, 40h SSEND, 20h LSEND, or 0"
+-- the motor that a record holds: all that the table of "Record bytes" lists; 0-3 "position", 31 "end flags: 80h ESEND, 40h
+-- SSEND, 20h LSEND, or 0"
 unfoldable pub motorOf : List ℕ → Motor
 motorOf b =
     record {
@@ -60,48 +64,56 @@ motorOf b =
       drive = driveOf b;
     }
 
--- a motor's topics as bytes, in the record's order
+-- "signed ones are two's complement": a place in its four bytes
 abbrev pub placeBytes : ℕ → List ℕ
 placeBytes p = wordBytes 4 (wordOf p)
 
+-- 12-15, 16-19, 20-23, 24 as they are written
 abbrev pub speedBytes : Speeds → List ℕ
 speedBytes s = wordBytes 4 (s .high) ++ (wordBytes 4 (s .middle) ++ (wordBytes 4 (s .low) ++ (s .selected ∷ [])))
 
+-- 27, 28, 29, 30 as they are written
 abbrev pub setupBytes : Setup → List ℕ
 setupBytes s = s .a ∷ s .b ∷ s .c ∷ s .d ∷ []
 
+-- 32, 33, 34-35, 36-39, 40-43 as they are written
 abbrev pub driveBytes : Drive → List ℕ
 driveBytes d =
     d .going ∷ d .kind ∷ (wordBytes 2 (d .fraction) ++ (wordBytes 4 (d .speed) ++ placeBytes (d .target)))
 
--- the record of a motor; 44-63 "zero"
+-- the record of a motor: the topics in the order of their bytes, and "44-63 | zero"
 unfoldable pub recordOf : Motor → List ℕ
 recordOf m =
     placeBytes (m .place) ++ (placeBytes (m .limits .cw) ++ (placeBytes (m .limits .ccw) ++ (speedBytes (m .speeds)
     ++ (m .wiring .setls ∷ m .wiring .contacts ∷ (setupBytes (m .setup)
     ++ (m .ended ∷ (driveBytes (m .drive) ++ replicate 20 0)))))))
 
--- the motor with one topic replaced
+-- the motor with another position
 abbrev pub withPlace : Motor → ℕ → Motor
 withPlace m p = record { place = p; limits = m .limits; speeds = m .speeds; wiring = m .wiring; setup = m .setup; ended = m .ended; drive = m .drive }
 
+-- the motor with other digital limits
 abbrev pub withLimits : Motor → Limits → Motor
 withLimits m l = record { place = m .place; limits = l; speeds = m .speeds; wiring = m .wiring; setup = m .setup; ended = m .ended; drive = m .drive }
 
+-- the motor with other speeds
 abbrev pub withSpeeds : Motor → Speeds → Motor
 withSpeeds m s = record { place = m .place; limits = m .limits; speeds = s; wiring = m .wiring; setup = m .setup; ended = m .ended; drive = m .drive }
 
+-- the motor with another SETLS byte or other contacts
 abbrev pub withWiring : Motor → Wiring → Motor
 withWiring m w = record { place = m .place; limits = m .limits; speeds = m .speeds; wiring = w; setup = m .setup; ended = m .ended; drive = m .drive }
 
+-- the motor with other SETMT digits
 abbrev pub withSetup : Motor → Setup → Motor
 withSetup m s = record { place = m .place; limits = m .limits; speeds = m .speeds; wiring = m .wiring; setup = s; ended = m .ended; drive = m .drive }
 
--- a drive and the end flags change together: a start clears them and an end sets them
+-- the motor with other end flags and another drive: they change together, since a start clears the flags and an end sets
+-- them
 abbrev pub withDrive : Motor → ℕ → Drive → Motor
 withDrive m e d = record { place = m .place; limits = m .limits; speeds = m .speeds; wiring = m .wiring; setup = m .setup; ended = e; drive = d }
 
--- "a stopped record has zeros in 33..43": no drive
+-- "a stopped record has zeros in 33..43": no drive. Target field 0 is the place of position 0.
 abbrev pub standing : Drive
 standing = record { going = 0; kind = 0; fraction = 0; speed = 0; target = origin }
 

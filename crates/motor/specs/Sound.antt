@@ -21,26 +21,31 @@ use Rattle.motor.specs.Switches.{blocked, room}
 abbrev pub isSpeed : ℕ → Bool
 isSpeed v = leb 1 v && leb v 5000000
 
--- "every field is in its range", topic by topic
+-- "positions": the digital limits are positions
 unfoldable pub limitsInRange : Limits → Bool
 limitsInRange l = isPosition (l .cw) && isPosition (l .ccw)
 
+-- "HSPD, MSPD, LSPD", "selected speed: 0 L, 1 M, 2 H"
 unfoldable pub speedsInRange : Speeds → Bool
 speedsInRange s = isSpeed (s .high) && isSpeed (s .middle) && isSpeed (s .low) && leb (s .selected) 2
 
--- the 0 of DYYY0yyy is bit 3 of the byte
+-- "DYYY0yyy read as a binary byte": its 0 is bit 3; "contacts, closed = 1": three bits
 unfoldable pub wiringInRange : Wiring → Bool
 wiringInRange w = leb (w .setls) 255 && not (isSet 3 (w .setls)) && leb (w .contacts) 7
 
+-- "SETMT digits A (0, 1), B (0, 1), C (0), D (0..2)"
 unfoldable pub setupInRange : Setup → Bool
 setupInRange s = leb (s .a) 1 && leb (s .b) 1 && eqb (s .c) 0 && leb (s .d) 2
 
+-- "end flags: 80h ESEND, 40h SSEND, 20h LSEND, or 0"
 abbrev pub endFlagsInRange : ℕ → Bool
 endFlagsInRange e = eqb e 0 || eqb e 0x20 || eqb e 0x40 || eqb e 0x80
 
+-- "0 stopped, 1 CW, 2 CCW; kind: 0 scan, 1 to a target", "fraction 0..999", and a target that is a position
 unfoldable pub driveInRange : Drive → Bool
 driveInRange d = leb (d .going) 2 && leb (d .kind) 1 && leb (d .fraction) 999 && isPosition (d .target)
 
+-- "every field is in its range"
 unfoldable pub inRange : Motor → Bool
 inRange m =
     isPosition (m .place) && limitsInRange (m .limits) && speedsInRange (m .speeds)
@@ -64,13 +69,14 @@ underWay m =
     eqb (m .ended) 0 && eqb (m .setup .a) 1 && isSpeed (m .drive .speed)
     && (leb 1 (room (m .drive .going) m) && not (blocked (m .drive .going) m) && aimRight m)
 
--- 0 is stopped
+-- "0 stopped": a record drives when it is not stopped
 abbrev pub driving : Motor → Bool
 driving m = not (eqb (m .drive .going) 0)
 
+-- a motor is sound: its fields are in range, and it keeps the rules for a stopped or for a driving record
 unfoldable pub soundMotor : Motor → Bool
 soundMotor m = inRange m && cond (driving m) (underWay m) (atRest (m .drive))
 
--- a record's 64 bytes are sound: the motor in them is, and "44-63 zero"
+-- a record is sound: 64 bytes, a sound motor in them, and "every byte given as zero is zero", 44 to 63
 unfoldable pub soundRecord : List ℕ → Bool
 soundRecord b = eqb (length b) 64 && soundMotor (motorOf b) && allZero (part b 44 20)

@@ -7,21 +7,23 @@ use Rattle.digits.specs.Places.{lowest, highest, ahead, cw}
 use Rattle.motor.specs.declared.Wiring.{Wiring}
 use Rattle.motor.specs.declared.Motor.{Motor}
 
--- the switches by number, as the contacts' bits have them: 0 CW, 1 CCW, 2 HP; and the switch that a direction runs into
+-- "bit 0 CW, bit 1 CCW, bit 2 HP": switches are numbered by their bits; this is the switch that a direction runs into
 abbrev pub switchOf : ℕ → ℕ
 switchOf going = cond (eqb going cw) 0 1
 
--- "Polarity and enable digits stand in the order HP, CCW, CW; enable 1 = on; polarity 1 = N.C., 0 = N.O." So of DYYY0yyy
--- read as a byte, bit 7 is D, bits 6 to 4 enable HP, CCW and CW, and bits 2 to 0 are their polarities.
+-- "D = 1": D is the first of DYYY0yyy, bit 7 of the byte
 abbrev pub digital : Wiring → Bool
 digital w = isSet 7 (w .setls)
 
+-- "Polarity and enable digits stand in the order HP, CCW, CW; enable 1 = on": YYY, bits 6 to 4 of the byte
 abbrev pub enabled : ℕ → Wiring → Bool
 enabled s w = isSet (4 + s) (w .setls)
 
+-- "polarity 1 = N.C., 0 = N.O. (000, 003)": yyy, bits 2 to 0 of the byte
 abbrev pub normallyClosed : ℕ → Wiring → Bool
 normallyClosed s w = isSet s (w .setls)
 
+-- "contacts, closed = 1"
 abbrev pub closed : ℕ → Wiring → Bool
 closed s w = isSet s (w .contacts)
 
@@ -29,7 +31,7 @@ closed s w = isSet s (w .contacts)
 unfoldable pub active : ℕ → Wiring → Bool
 active s w = (closed s w && not (normallyClosed s w)) || (not (closed s w) && normallyClosed s w)
 
--- an active enabled switch in a direction
+-- "active enabled switch in its direction"
 unfoldable pub blocked : ℕ → Motor → Bool
 blocked going m = enabled (switchOf going) (m .wiring) && active (switchOf going) (m .wiring)
 
@@ -41,7 +43,7 @@ edge going m =
     (cond (digital (m .wiring)) (min highest (m .limits .cw)) highest)
     (cond (digital (m .wiring)) (max lowest (m .limits .ccw)) lowest)
 
--- "CW room is the smaller .. less the position. CCW room is the position less the larger ..": none where the motor stands
--- at the edge or past it
+-- "CW room is the smaller of .. less the position. CCW room is the position less the larger of ..": none where the motor
+-- stands at the edge or past it
 unfoldable pub room : ℕ → Motor → ℕ
 room going m = ahead going (m .place) (edge going m)

@@ -15,20 +15,23 @@ use Rattle.motor.specs.Drives.{endedWith, lsend}
 unfoldable pub tickSpeed : Motor → ℕ
 tickSpeed m = cond (driving m) (m .drive .speed) 0
 
--- "add the speed to the fraction; the thousands are due, the rest is the new fraction"
+-- "add the speed to the fraction; the thousands are due"
 unfoldable pub due : Motor → ℕ
 due m = (m .drive .fraction + tickSpeed m) / 1000
 
+-- "the rest is the new fraction"
 unfoldable pub rest : Motor → ℕ
 rest m = (m .drive .fraction + tickSpeed m) % 1000
 
--- "for a target, the distance left"
+-- "kind: 0 scan, 1 to a target"
 abbrev pub toTarget : Motor → Bool
 toTarget m = eqb (m .drive .kind) 1
 
+-- "the distance left"
 unfoldable pub distanceLeft : Motor → ℕ
 distanceLeft m = ahead (m .drive .going) (m .place) (m .drive .target)
 
+-- "room", in the direction of the drive
 abbrev pub roomLeft : Motor → ℕ
 roomLeft m = room (m .drive .going) m
 
@@ -36,10 +39,11 @@ roomLeft m = room (m .drive .going) m
 unfoldable pub given : Motor → ℕ
 given m = min (due m) (cond (toTarget m) (min (roomLeft m) (distanceLeft m)) (roomLeft m))
 
--- "If the target is reached"; "if room is used up"
+-- "If the target is reached"
 unfoldable pub reached : Motor → Bool
 reached m = toTarget m && eqb (given m) (distanceLeft m)
 
+-- "if room is used up"
 unfoldable pub usedUp : Motor → Bool
 usedUp m = eqb (given m) (roomLeft m)
 
@@ -47,7 +51,7 @@ usedUp m = eqb (given m) (roomLeft m)
 abbrev pub advanced : Motor → Motor
 advanced m = withPlace m (moved (m .drive .going) (m .place) (given m))
 
--- the drive goes on, with the new fraction
+-- "the rest is the new fraction": the drive goes on with it
 abbrev pub goesOn : Motor → Motor
 goesOn m =
     withDrive (advanced m) (m .ended)

@@ -9,36 +9,39 @@ use Rattle.digits.specs.Text.{isHex, hexValue, digitsAtFront, valueOf}
 use Rattle.script.specs.declared.Job.{Job}
 use Rattle.script.specs.declared.Job.the-variants.{Send, Touch, Wait, Unknown}
 
--- The lines of an input. A byte joins the first of the lines after it; a line feed begins a new one. So a last line without
--- a line feed counts if it has a byte, and an empty input has no line.
+-- a byte in front of the first of some lines
 abbrev pub joined : ℕ → List (List ℕ) → List (List ℕ)
 joined b [] = (b ∷ []) ∷ []
 joined b (l ∷ ls) = (b ∷ l) ∷ ls
 
+-- "reads standard input": its lines, each ended by a line feed. A last line without one counts if it has a byte, and an
+-- empty input has no line.
 unfoldable pub linesOf : List ℕ → List (List ℕ)
 linesOf [] = []
 linesOf (b ∷ s) = cond (eqb b 10) ([] ∷ linesOf s) (joined b (linesOf s))
 
+-- a job if a test holds; else it is "any other line"
 abbrev pub jobIf : Bool → Job → Job
 jobIf test j = cond test j Unknown
 
--- after `S `: x, a blank, and one digit 0 to 7
+-- "`S x n` (x as above, contacts 0..7)": after `S ` come x, a blank, and one digit
 unfoldable pub touchOf : List ℕ → Job
 touchOf s =
     jobIf (eqb (length s) 3 && isHex (getD s 0 0) && eqb (getD s 1 0) 32 && (leb 48 (getD s 2 0) && leb (getD s 2 0) 55))
     (Touch (hexValue (getD s 0 0)) (getD s 2 0 - 48))
 
--- after `T `: 1 to 10000, and nothing but its digits
+-- "`T n` (1..10000 ticks, no leading zeros)": after `T ` come digits and nothing else
 unfoldable pub waitOf : List ℕ → Job
 waitOf s =
     jobIf (leb 1 (length s) && leb (length s) 5 && eqb (digitsAtFront s) (length s)
     && (not (eqb (getD s 0 0) 48) && leb (valueOf s) 10000))
     (Wait (valueOf s))
 
--- a letter, one blank, and the rest; "Any other line"
+-- "`C line`, `S x n`, `T n`": by the letter, with what comes after it and its blank
 unfoldable pub lettered : ℕ → List ℕ → Job
 lettered k s = cond (eqb k 67) Send (cond (eqb k 83) (touchOf s) (cond (eqb k 84) (waitOf s) Unknown))
 
+-- what a line asks for
 unfoldable pub jobOf : List ℕ → Job
 jobOf [] = Unknown
 jobOf (k ∷ []) = Unknown

@@ -20,64 +20,73 @@ pub record Printed : Type 0 where
   pub table : List ℕ
   pub text : List ℕ
 
--- "Numbers that a program prints itself (not replies) are decimal without leading zeros; signed ones carry a sign, + for 0"
+-- "Numbers that a program prints itself (not replies) are decimal without leading zeros"
 abbrev pub plainText : ℕ → List ℕ
 plainText n = decimal 1 n
 
+-- "signed ones carry a sign, + for 0"
 abbrev pub signedText : ℕ → List ℕ
 signedText p = signedDecimal 1 p
 
--- C: the number, a blank, and the reply or `-`
+-- "the reply or `-`"
 abbrev pub replyText : List ℕ → List ℕ
 replyText [] = bytes "-"
 replyText (b ∷ s) = b ∷ s
 
+-- "the number, then for C a space and the reply or `-`": the result is the number plus 256 times the reply's length
 unfoldable pub commandText : CommandAfter → List ℕ
 commandText r = plainText (r .result % 256) ++ (32 ∷ replyText (take (r .result / 256) (r .reply)))
 
+-- C: the command call, with a reply buffer of 32 bytes
 unfoldable pub sent : List ℕ → List ℕ → Printed
 sent t line =
     let r = commandCall t line (replicate 32 0) in
     record { table = r .table; text = commandText r }
 
--- S: the number
+-- S: the reading call, and its number
 unfoldable pub touched : List ℕ → ℕ → ℕ → Printed
 touched t c n =
     let r = readingCall t c n in
     record { table = r .table; text = plainText (r .result) }
 
--- T: the number of the last tick, and the nets over all of them, kept as places: a channel with no pulses stands at the
--- origin
+-- T: after some of its ticks, the last one's number, the table, and the net of each channel, kept as a place: a channel that
+-- has had no pulses stands at the origin
 pub record Waited : Type 0 where
   pub result : ℕ
   pub table : List ℕ
   pub nets : List ℕ
 
+-- the nets with the counts of one more tick
 unfoldable pub netsAfter : List ℕ → List ℕ → List ℕ
 netsAfter [] pulses = []
 netsAfter (n ∷ ns) pulses = (n + placeOf (word (take 4 pulses)) - origin) ∷ netsAfter ns (drop 4 pulses)
 
+-- one more tick
 abbrev pub tickOf : Waited → Waited
 tickOf w =
     let r = tickCall (w .table) (replicate 64 0) in
     record { result = r .result; table = r .table; nets = netsAfter (w .nets) (r .pulses) }
 
+-- n more ticks
 unfoldable pub waited : ℕ → Waited → Waited
 waited zero w = w
 waited (suc n) w = waited n (tickOf w)
 
+-- "per channel with a nonzero net, a space, x, colon, signed net"
 unfoldable pub netText : List ℕ → ℕ → List ℕ
 netText nets c = cond (eqb (getD nets c origin) origin) [] (32 ∷ hexDigit c ∷ 58 ∷ signedText (getD nets c origin))
 
+-- the number, and the nets in the channels' order
 unfoldable pub waitedText : Waited → List ℕ
 waitedText w = plainText (w .result) ++ gather (netText (w .nets)) 16
 
+-- T: n ticks
 unfoldable pub ticked : List ℕ → ℕ → Printed
 ticked t n =
     let w = waited n (record { result = 0; table = t; nets = replicate 16 origin }) in
     record { table = w .table; text = waitedText w }
 
--- one line of the script
+-- one line of the script; "Any other line prints `?`"
 abbrev pub jobDone : List ℕ → List ℕ → Job → Printed
 jobDone t line Send = sent t (drop 2 line)
 jobDone t line (Touch c n) = touched t c n

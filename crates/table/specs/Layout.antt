@@ -7,25 +7,31 @@ use Rattle.digits.specs.Words.{word}
 use Rattle.motor.specs.declared.Motor.{Motor}
 use Rattle.motor.specs.Record.{motorOf, recordOf, freshMotor}
 
+-- "1,088 bytes"
 abbrev pub tableSize : ℕ
 tableSize = 1088
 
--- "Head: byte 0 mode (0 local, 1 remote); byte 1 all-reply (0 off, 1 on); byte 2 error flags 0..15"
+-- "byte 0 mode (0 local, 1 remote)"
 abbrev pub mode : List ℕ → ℕ
 mode t = word (part t 0 1)
 
+-- "byte 1 all-reply (0 off, 1 on)"
 abbrev pub allReply : List ℕ → ℕ
 allReply t = word (part t 1 1)
 
+-- "byte 2 error flags 0..15"
 abbrev pub errors : List ℕ → ℕ
 errors t = word (part t 2 1)
 
+-- the table with another mode, and every other byte as it was
 abbrev pub withMode : List ℕ → ℕ → List ℕ
 withMode t n = put t 0 (n ∷ [])
 
+-- the same for all-reply
 abbrev pub withAllReply : List ℕ → ℕ → List ℕ
 withAllReply t n = put t 1 (n ∷ [])
 
+-- the same for the error flags
 abbrev pub withErrors : List ℕ → ℕ → List ℕ
 withErrors t n = put t 2 (n ∷ [])
 
@@ -33,9 +39,11 @@ withErrors t n = put t 2 (n ∷ [])
 abbrev pub recordStart : ℕ → ℕ
 recordStart c = 64 + 64 * c
 
+-- the record of channel c, 64 bytes
 abbrev pub recordAt : List ℕ → ℕ → List ℕ
 recordAt t c = part t (recordStart c) 64
 
+-- the motor of channel c
 unfoldable pub motorAt : List ℕ → ℕ → Motor
 motorAt t c = motorOf (recordAt t c)
 

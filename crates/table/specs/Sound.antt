@@ -9,9 +9,10 @@ use Rattle.digits.specs.Bytes.{part, pieces, all, allZero}
 use Rattle.motor.specs.Sound.{soundRecord}
 use Rattle.table.specs.Layout.{tableSize, mode, allReply, errors, records}
 
--- bytes 0, 1 and 2 in their ranges, "the rest zero"
+-- "mode (0 local, 1 remote)", "all-reply (0 off, 1 on)", "error flags 0..15; the rest zero"
 unfoldable pub soundHead : List ℕ → Bool
 soundHead t = leb (mode t) 1 && leb (allReply t) 1 && leb (errors t) 15 && allZero (part t 3 61)
 
+-- "A table is *sound* when ..": its length, its head and all of its records
 unfoldable pub soundTable : List ℕ → Bool
 soundTable t = eqb (length t) tableSize && soundHead t && all soundRecord (records t)

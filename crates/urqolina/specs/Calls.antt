@@ -24,10 +24,11 @@ use Rattle.urqolina.specs.Judging.{judge}
 use Rattle.urqolina.specs.Changing.{changed, flagged}
 use Rattle.urqolina.specs.Replies.{echo, answer}
 
--- "5, 6, ..": the sizes first, then the table
+-- "Order: 5, 6, ..": the sizes first, then the table
 abbrev pub refusal : Bool → List ℕ → Verdict
 refusal sizesRight t = cond sizesRight (cond (soundTable t) Done NotSound) WrongSize
 
+-- "0 | OK | done"
 abbrev pub accepted : Verdict → Bool
 accepted v = eqb (numberOf v) 0
 
@@ -36,7 +37,7 @@ pub record TableAfter : Type 0 where
   pub result : ℕ
   pub table : List ℕ
 
--- Fresh: "fresh gives only 0 or 5"
+-- the fresh call: "fresh gives only 0 or 5"
 unfoldable pub freshCall : List ℕ → TableAfter
 freshCall t =
     cond (eqb (length t) tableSize)
@@ -61,12 +62,12 @@ refused t v reply = replied v (flagged t v) (echo (flagged t v) v) reply
 unfoldable pub obeyed : List ℕ → Order → List ℕ → CommandAfter
 obeyed t o reply = replied Done (changed t o) (answer (changed t o) o) reply
 
--- a line on a sound table
+-- a line on a sound table: "1 .. the line has none of the forms above", then the order's verdict
 unfoldable pub taken : List ℕ → Parsed → List ℕ → CommandAfter
 taken t Nothing reply = refused t NoForm reply
 taken t (Is o) reply = cond (accepted (judge t o)) (obeyed t o reply) (refused t (judge t o) reply)
 
--- "table not 1,088 bytes, reply buffer under 32" is 5; "5 and 6 change nothing anywhere"
+-- the command call: "table not 1,088 bytes, reply buffer under 32" is 5; "5 and 6 change nothing anywhere"
 unfoldable pub commandCall : List ℕ → List ℕ → List ℕ → CommandAfter
 commandCall t line reply =
     let v = refusal (eqb (length t) tableSize && leb 32 (length reply)) t in
@@ -74,7 +75,7 @@ commandCall t line reply =
     (taken t (orderOf line) reply)
     (record { result = numberOf v; table = t; reply = reply })
 
--- A switch reading: "channel over 15, contacts over 7" is 5
+-- the reading call: "table not 1,088 bytes, .. channel over 15, contacts over 7" is 5
 unfoldable pub readingCall : List ℕ → ℕ → ℕ → TableAfter
 readingCall t c n =
     let v = refusal (eqb (length t) tableSize && leb c 15 && leb n 7) t in
@@ -88,10 +89,11 @@ pub record TickAfter : Type 0 where
   pub table : List ℕ
   pub pulses : List ℕ
 
--- One tick of every channel. "The pulse buffer is 64 bytes: sixteen signed 32-bit counts"
+-- "The pulse buffer is 64 bytes: sixteen signed 32-bit counts, CW positive, 0 for a stopped motor."
 abbrev pub counts : List ℕ → List ℕ
 counts t = each (λ r. wordBytes 4 (tickCount (motorOf r))) (records t)
 
+-- the tick call: "table not 1,088 bytes, .. pulse buffer not 64" is 5; one tick "for each driving channel"
 unfoldable pub tickCall : List ℕ → List ℕ → TickAfter
 tickCall t pulses =
     let v = refusal (eqb (length t) tableSize && eqb (length pulses) 64) t in

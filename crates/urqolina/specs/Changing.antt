@@ -16,9 +16,9 @@ use Rattle.line.specs.declared.Setting.the-variants.{Preset, SetCwLimit, SetCcw
 use Rattle.line.specs.declared.Order.{Order}
 use Rattle.line.specs.declared.Order.the-variants.{Go, Stop, StopAll, ChangeSpeed, Set, Ask, Mode, AllReply, AskHead, ClearErrors, ClearError}
 use Rattle.table.specs.Layout.{errors, withMode, withAllReply, withErrors, motorAt, withMotor, withMotors}
-use Rattle.urqolina.specs.Judging.{placeWritten, courseOf}
+use Rattle.urqolina.specs.Judging.{setupWritten, placeWritten, courseOf}
 
--- the speeds with the one numbered k replaced: 0 L, 1 M, 2 H
+-- "0 L, 1 M, 2 H": the speeds with the one numbered k replaced
 abbrev pub withSpeed : Speeds → ℕ → ℕ → Speeds
 withSpeed s k v =
     record {
@@ -28,11 +28,11 @@ withSpeed s k v =
       selected = s .selected;
     }
 
--- "the SETLS digits DYYY0yyy read as a binary byte"
+-- "read as a binary byte": four of its digits
 abbrev pub binary : Four → ℕ
 binary q = 8 * q .a + 4 * q .b + 2 * q .c + q .d
 
--- the motor with a setting made
+-- the motor after an accepted setting; "the SETLS digits DYYY0yyy read as a binary byte"
 unfoldable pub withSetting : Motor → Setting → Motor
 withSetting m (Preset w) = withPlace m (placeWritten w)
 withSetting m (SetCwLimit w) = withLimits m (record { cw = placeWritten w; ccw = m .limits .ccw })
@@ -42,10 +42,11 @@ withSetting m (Select k) =
 withSetting m (SetSpeed k v) = withSpeeds m (withSpeed (m .speeds) k v)
 withSetting m (SetSwitches q r) =
     withWiring m (record { setls = 16 * binary q + binary r; contacts = m .wiring .contacts })
-withSetting m (SetMotor q) = withSetup m (record { a = q .a; b = q .b; c = q .c; d = q .d })
+withSetting m (SetMotor q) = withSetup m (setupWritten q)
 
--- the table after an accepted order: a command naming channel x writes that record alone, "only ASSTP and AESTP, which name
--- none, reach several"; reads change nothing; "LOC lets drives run on"; "ERRC clears all error flags, ERRCe bit e"
+-- the table after an accepted order. "A command naming channel x leaves the other fifteen records byte for byte; here only
+-- ASSTP and AESTP, which name none, reach several." Reads change nothing. "ERRC clears all error flags, ERRCe bit e, 0 to 3."
+-- "LOC lets drives run on."
 unfoldable pub changed : List ℕ → Order → List ℕ
 changed t (Go x s) = withMotor t x (started (motorAt t x) (courseOf (motorAt t x) s))
 changed t (Stop x e) = withMotor t x (stopped e (motorAt t x))

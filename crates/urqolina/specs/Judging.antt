@@ -1,16 +1,16 @@
--- Document 01, "Numbers handed back": which verdict an order gets on a sound table. "Order: .. local mode, value, busy, target
--- out of range .., the other causes of 4."
-use Prim.Native.Nat.{ℕ, _+_}
+-- Document 01, "Numbers handed back": which verdict an order gets on a sound table.
+use Prim.Native.Nat.{ℕ}
 use mathlib.Core.List.{List}
 use mathlib.Core.Bool.{Bool, true, false, _&&_, not, cond}
 use lib.Dec.{eqb, leb}
 use Rattle.digits.specs.Places.{origin, moved, cw, ccw}
+use Rattle.motor.specs.declared.Setup.{Setup}
 use Rattle.motor.specs.declared.Motor.{Motor}
 use Rattle.motor.specs.declared.Course.{Course}
 use Rattle.motor.specs.declared.Course.the-variants.{Along}
 use Rattle.motor.specs.declared.Verdict.{Verdict}
 use Rattle.motor.specs.declared.Verdict.the-variants.{Done, Busy, OutOfRange, LocalMode}
-use Rattle.motor.specs.Sound.{isSpeed, driving}
+use Rattle.motor.specs.Sound.{isSpeed, setupInRange, driving}
 use Rattle.motor.specs.Drives.{courseTo, judgeStart, judgeSpeedChange}
 use Rattle.line.specs.declared.Written.{Written}
 use Rattle.line.specs.declared.Four.{Four}
@@ -44,16 +44,18 @@ signedInRange w = leb (w .digits) 2147483647
 abbrev pub binaryDigits : Four → Bool
 binaryDigits q = leb (q .a) 1 && leb (q .b) 1 && leb (q .c) 1 && leb (q .d) 1
 
--- "SETMT digits A (0, 1), B (0, 1), C (0), D (0..2)"
-abbrev pub setmtInRange : Four → Bool
-setmtInRange q = leb (q .a) 1 && leb (q .b) 1 && eqb (q .c) 0 && leb (q .d) 2
+-- the SETMT digits as they were written
+abbrev pub setupWritten : Four → Setup
+setupWritten q = record { a = q .a; b = q .b; c = q .c; d = q .d }
 
+-- the value of a start is in its range; SCAN and JOG have none
 abbrev pub startInRange : Start → Bool
 startInRange (Abs w) = signedInRange w
 startInRange (Rel w) = signedInRange w
 startInRange (Scan going) = true
 startInRange (Jog going) = true
 
+-- the value of a setting is in its range; a selection has none
 abbrev pub settingInRange : Setting → Bool
 settingInRange (Preset w) = signedInRange w
 settingInRange (SetCwLimit w) = signedInRange w
@@ -61,7 +63,7 @@ settingInRange (SetCcwLimit w) = signedInRange w
 settingInRange (Select k) = true
 settingInRange (SetSpeed k v) = isSpeed v
 settingInRange (SetSwitches q r) = binaryDigits q && binaryDigits r
-settingInRange (SetMotor q) = setmtInRange q
+settingInRange (SetMotor q) = setupInRange (setupWritten q)
 
 -- the value that an order carries is in its range; "ERRCe bit e, 0 to 3"
 unfoldable pub valueInRange : Order → Bool
@@ -77,10 +79,11 @@ valueInRange (AskHead q) = true
 valueInRange ClearErrors = true
 valueInRange (ClearError e) = leb e 3
 
--- a sign as a direction: + is CW; and the place that ±d names
+-- a sign as a direction: + is CW
 abbrev pub directionOf : Written → ℕ
 directionOf w = cond (w .minus) ccw cw
 
+-- the place of the position that ±d writes; "-0 is 0"
 abbrev pub placeWritten : Written → ℕ
 placeWritten w = moved (directionOf w) origin (w .digits)
 
@@ -105,6 +108,7 @@ judgeMotor t (AskHead q) = Done
 judgeMotor t ClearErrors = Done
 judgeMotor t (ClearError e) = Done
 
+-- "Order: .. local mode, value, busy, target out of range .., the other causes of 4."
 unfoldable pub judge : List ℕ → Order → Verdict
 judge t o =
     cond (needsRemote o && eqb (mode t) 0) LocalMode

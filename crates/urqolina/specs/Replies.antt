@@ -19,7 +19,7 @@ use Rattle.line.specs.declared.Order.{Order}
 use Rattle.line.specs.declared.Order.the-variants.{Go, Stop, StopAll, ChangeSpeed, Set, Ask, Mode, AllReply, AskHead, ClearErrors, ClearError}
 use Rattle.table.specs.Layout.{mode, allReply, errors, motorAt}
 
--- the text for each number; 5 and 6 have none
+-- "No. | Text": the text for each number; 5 and 6 have "none"
 unfoldable pub textOf : Verdict → List ℕ
 textOf Done = bytes "OK"
 textOf NoForm = bytes "COMMAND ERROR"
@@ -33,10 +33,11 @@ textOf NotDriving = bytes "NG"
 textOf WrongSize = []
 textOf NotSound = []
 
--- "positions and limits, a sign (+ for 0) and at least 7 digits; speeds, at least 6"
+-- "positions and limits, a sign (+ for 0) and at least 7 digits"
 abbrev pub positionText : ℕ → List ℕ
 positionText p = signedDecimal 7 p
 
+-- "speeds, at least 6"
 abbrev pub speedText : ℕ → List ℕ
 speedText v = decimal 6 v
 
@@ -44,20 +45,22 @@ speedText v = decimal 6 v
 unfoldable pub selectedText : ℕ → List ℕ
 selectedText k = cond (eqb k 0) (bytes "LSPD") (cond (eqb k 1) (bytes "MSPD") (bytes "HSPD"))
 
--- `SETLS?` DYYY0yyy and `SETMT?` ABCD, a digit each (000)
+-- the byte of a decimal digit
 abbrev pub digitByte : ℕ → ℕ
 digitByte n = 48 + n
 
+-- `SETLS?`: DYYY0yyy, a digit each (000)
 unfoldable pub switchesText : ℕ → List ℕ
 switchesText n =
     digitByte (bit 7 n) ∷ digitByte (bit 6 n) ∷ digitByte (bit 5 n) ∷ digitByte (bit 4 n)
     ∷ digitByte (bit 3 n) ∷ digitByte (bit 2 n) ∷ digitByte (bit 1 n) ∷ digitByte (bit 0 n) ∷ []
 
+-- `SETMT?`: ABCD, a digit each (000)
 unfoldable pub motorText : Motor → List ℕ
 motorText m =
     digitByte (m .setup .a) ∷ digitByte (m .setup .b) ∷ digitByte (m .setup .c) ∷ digitByte (m .setup .d) ∷ []
 
--- "`STSx?`: R or L; x; P, N or S; one hex digit V; two hex digits HH; position."
+-- n where a test holds, else 0
 abbrev pub flagIf : Bool → ℕ → ℕ
 flagIf test n = cond test n 0
 
@@ -71,13 +74,15 @@ statusV m =
 unfoldable pub statusHH : Motor → ℕ
 statusHH m = cond (driving m) 3 (m .ended)
 
--- R remote, L local; P driving CW, N driving CCW, S stopped
+-- "R or L": R is remote mode, L local
 unfoldable pub modeLetter : ℕ → ℕ
 modeLetter k = cond (eqb k 0) 76 82
 
+-- "P, N or S": driving CW, driving CCW, stopped
 unfoldable pub goingLetter : ℕ → ℕ
 goingLetter g = cond (eqb g 0) 83 (cond (eqb g 1) 80 78)
 
+-- "`STSx?`: R or L; x; P, N or S; one hex digit V; two hex digits HH; position."
 unfoldable pub statusText : ℕ → ℕ → Motor → List ℕ
 statusText k x m =
     modeLetter k ∷ hexDigit x ∷ goingLetter (m .drive .going) ∷ hexDigit (statusV m)
