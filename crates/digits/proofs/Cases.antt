@@ -3,7 +3,7 @@ use mathlib.Core.Path.{_≡_, refl}
 use mathlib.Core.List.{[], _∷_}
 use mathlib.Core.Bool.{true, false}
 use Prim.Native.Nat.{_+_}
-use Rattle.digits.specs.Bytes.{part, put, pieces, all, each, gather, allZero}
+use Rattle.digits.specs.Bytes.{part, put, pieces, every, gather, allZero}
 use Rattle.digits.specs.Words.{word, wordBytes, withBit, withoutBit}
 use Rattle.digits.specs.Places.{origin, placeOf, wordOf, countOf, cw, ccw}
 use Rattle.digits.specs.Text.{bytes, decimal, signedDecimal, hexByte, hexValue, isHex, valueOf, digitsAtFront}
@@ -40,10 +40,10 @@ reads = (refl, refl, refl, refl, refl, refl)
 buffers :
     (put (1 ∷ 2 ∷ 3 ∷ 4 ∷ []) 1 (9 ∷ 8 ∷ []) ≡ 1 ∷ 9 ∷ 8 ∷ 4 ∷ []) × (part (1 ∷ 2 ∷ 3 ∷ 4 ∷ []) 2 1 ≡ 3 ∷ [])
     × (pieces 2 2 (1 ∷ 2 ∷ 3 ∷ 4 ∷ 5 ∷ []) ≡ (1 ∷ 2 ∷ []) ∷ (3 ∷ 4 ∷ []) ∷ [])
-    × (each (λ p. 9 ∷ p) ((1 ∷ []) ∷ [] ∷ []) ≡ 9 ∷ 1 ∷ 9 ∷ []) × (gather (λ c. c ∷ []) 3 ≡ 0 ∷ 1 ∷ 2 ∷ [])
-    × (all allZero ((0 ∷ []) ∷ (0 ∷ 1 ∷ []) ∷ []) ≡ false) × (all allZero ((0 ∷ []) ∷ (0 ∷ 0 ∷ []) ∷ []) ≡ true)
+    × (gather (λ c. c ∷ []) 3 ≡ 0 ∷ 1 ∷ 2 ∷ [])
+    × (every allZero ((0 ∷ []) ∷ (0 ∷ 1 ∷ []) ∷ []) ≡ false) × (every allZero ((0 ∷ []) ∷ (0 ∷ 0 ∷ []) ∷ []) ≡ true)
 unfolding computing-digits
-buffers = (refl, refl, refl, refl, refl, refl, refl)
+buffers = (refl, refl, refl, refl, refl, refl)
 
 -- a bit that is set stays set, one that is clear stays clear
 bits : (withBit 3 0 ≡ 8) × (withBit 3 9 ≡ 9) × (withoutBit 0 9 ≡ 8) × (withoutBit 1 9 ≡ 9)

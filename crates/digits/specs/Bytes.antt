@@ -19,14 +19,9 @@ pieces w zero s = []
 pieces w (suc k) s = take w s ∷ pieces w k (drop w s)
 
 -- the test passes at every piece
-unfoldable pub all : (List ℕ → Bool) → List (List ℕ) → Bool
-all f [] = true
-all f (p ∷ ps) = f p && all f ps
-
--- what f makes of each piece, one after the other
-unfoldable pub each : (List ℕ → List ℕ) → List (List ℕ) → List ℕ
-each f [] = []
-each f (p ∷ ps) = f p ++ each f ps
+unfoldable pub every : (List ℕ → Bool) → List (List ℕ) → Bool
+every f [] = true
+every f (p ∷ ps) = f p && every f ps
 
 -- f 0, f 1, .. one after the other, k of them
 unfoldable pub gather : (ℕ → List ℕ) → ℕ → List ℕ

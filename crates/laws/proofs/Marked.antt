@@ -2,10 +2,9 @@
 -- from fresh and REM unless said". One statement, and its proof is one computation on the definitions.
 use mathlib.Core.Path.{_≡_, refl}
 use mathlib.Core.List.{List, [], _∷_, map}
-use Prim.Native.Nat.{ℕ}
 use Rattle.urqolina.specs.Computing.{computing-urqolina}
 use Rattle.digits.specs.Places.{cw}
-use Rattle.urqolina.proofs.Steps.{Step, says, reads, ticks, holds, fresh, after, seen, stated}
+use Rattle.urqolina.proofs.Steps.{Step, says, ticks, holds, fresh, after, seen, stated}
 
 pub cases : List (List Step)
 cases =

@@ -2,13 +2,11 @@
 use Prim.Native.Nat.{ℕ}
 use Prim.Native.String as S
 use mathlib.Core.List.{List, [], _∷_, _++_}
-use mathlib.Core.Bool.{Bool, true, false, cond}
+use mathlib.Core.Bool.{cond}
 use lib.ListN.{length, take, drop}
 use lib.Dec.{leb}
 use Rattle.digits.specs.Text.{bytes, same}
 use Rattle.digits.specs.Places.{cw, ccw}
-use Rattle.line.specs.declared.Written.{Written}
-use Rattle.line.specs.declared.Four.{Four}
 use Rattle.line.specs.declared.Fields.{Fields}
 use Rattle.line.specs.declared.Start.{Start}
 use Rattle.line.specs.declared.Start.the-variants.{Abs, Rel, Scan, Jog}
@@ -18,7 +16,6 @@ use Rattle.line.specs.declared.Question.{Question}
 use Rattle.line.specs.declared.Question.the-variants.{AskPosition, AskCwLimit, AskCcwLimit, AskSelected, AskSpeed, AskSwitches, AskMotor, AskStatus}
 use Rattle.line.specs.declared.Order.{Order}
 use Rattle.line.specs.declared.Order.the-variants.{Go, Stop, StopAll, ChangeSpeed, Set, Ask, Mode, AllReply, AskHead, ClearErrors, ClearError}
-use Rattle.line.specs.declared.HeadQuestion.{HeadQuestion}
 use Rattle.line.specs.declared.HeadQuestion.the-variants.{AskAllReply, AskFlags, AskError}
 use Rattle.line.specs.declared.Parsed.{Parsed}
 use Rattle.line.specs.declared.Parsed.the-variants.{Is, Nothing}
@@ -125,16 +122,16 @@ headRows =
     ∷ []
 
 -- a line is read whole: nothing follows the fields
-abbrev pub whole : (Fields → Order) → Got → Parsed
-whole o (got f []) = Is (o f)
-whole o (got f (b ∷ s)) = Nothing
-whole o absent = Nothing
+abbrev pub complete : (Fields → Order) → Got → Parsed
+complete o (got f []) = Is (o f)
+complete o (got f (b ∷ s)) = Nothing
+complete o absent = Nothing
 
 -- a line has a row's form when it begins with the word, the fields follow, and nothing follows them
 unfoldable pub asRow : Row → List ℕ → Parsed
 asRow r s =
     cond (same (take (length (r .word)) s) (r .word))
-    (whole (r .order) (readFields (r .fields) noFields (drop (length (r .word)) s)))
+    (complete (r .order) (readFields (r .fields) noFields (drop (length (r .word)) s)))
     Nothing
 
 -- all the forms of document 01
@@ -142,14 +139,14 @@ unfoldable pub forms : List Row
 forms = startRows ++ (stopRows ++ (settingRows ++ (questionRows ++ headRows)))
 
 -- what was found, or else what is found later
-abbrev pub orElse : Parsed → Parsed → Parsed
-orElse (Is o) later = Is o
-orElse Nothing later = later
+abbrev pub firstOf : Parsed → Parsed → Parsed
+firstOf (Is o) later = Is o
+firstOf Nothing later = later
 
 -- the order by the first row whose form the line has
 unfoldable pub firstForm : List Row → List ℕ → Parsed
 firstForm [] s = Nothing
-firstForm (r ∷ rs) s = orElse (asRow r s) (firstForm rs s)
+firstForm (r ∷ rs) s = firstOf (asRow r s) (firstForm rs s)
 
 -- "0 to 80 bytes, without CR LF; longer is 1. Capitals only."
 unfoldable pub orderOf : List ℕ → Parsed

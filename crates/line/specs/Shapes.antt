@@ -1,12 +1,11 @@
 -- Document 01, "Lines": the fields that a line is made of, each read off the front of the bytes that are left, and the shapes
 -- that they make.
-use Prim.Native.Nat.{ℕ, _+_, _-_}
+use Prim.Native.Nat.{ℕ, _-_}
 use mathlib.Core.List.{List, [], _∷_}
 use mathlib.Core.Bool.{Bool, true, false, _&&_, cond}
 use lib.ListN.{take, drop, getD}
 use lib.Dec.{leb, eqb}
 use Rattle.digits.specs.Text.{isHex, hexValue, digitsAtFront, valueOf}
-use Rattle.line.specs.declared.Written.{Written}
 use Rattle.line.specs.declared.Four.{Four}
 use Rattle.line.specs.declared.Fields.{Fields}
 

@@ -14,7 +14,7 @@ use Rattle.motor.specs.Record.{motorOf, recordOf, freshMotor, withPlace,
 use Rattle.motor.specs.Switches.{active, blocked, room}
 use Rattle.motor.specs.Sound.{soundRecord}
 use Rattle.motor.specs.Drives.{courseTo, judgeStart, started, stopped, speedChanged, switchRead, ssend, lsend}
-use Rattle.motor.specs.Ticks.{given, tickMotor}
+use Rattle.motor.specs.Ticks.{tickMotor}
 use Rattle.motor.specs.Computing.{computing-motor}
 
 -- the motor after k ticks, and the pulses of each of them

@@ -1,11 +1,9 @@
 -- Document 01: what starts a drive, what changes it and what ends it.
-use Prim.Native.Nat.{ℕ, _+_, _-_}
-use mathlib.Core.Bool.{Bool, true, false, _&&_, not, cond}
+use Prim.Native.Nat.{ℕ}
+use mathlib.Core.Bool.{_&&_, cond}
 use lib.Dec.{eqb, ltb}
 use Rattle.digits.specs.Places.{origin, isPosition, moved, cw, ccw}
 use Rattle.motor.specs.declared.Speeds.{Speeds}
-use Rattle.motor.specs.declared.Wiring.{Wiring}
-use Rattle.motor.specs.declared.Drive.{Drive}
 use Rattle.motor.specs.declared.Motor.{Motor}
 use Rattle.motor.specs.declared.Course.{Course}
 use Rattle.motor.specs.declared.Course.the-variants.{Stay, Beyond, To, Along}

@@ -1,10 +1,10 @@
 -- Document 01, "The table": "A table is *sound* when every field is in its range, every byte given as zero is zero, and" the
 -- rules for a stopped and for a driving record hold. Here: of one record.
-use Prim.Native.Nat.{ℕ, _+_, _-_}
+use Prim.Native.Nat.{ℕ}
 use mathlib.Core.List.{List}
-use mathlib.Core.Bool.{Bool, true, false, _&&_, _||_, not, cond}
+use mathlib.Core.Bool.{Bool, _&&_, _||_, not, cond}
 use lib.ListN.{length}
-use lib.Dec.{eqb, leb, ltb}
+use lib.Dec.{eqb, leb}
 use Rattle.digits.specs.Bytes.{part, allZero}
 use Rattle.digits.specs.Words.{isSet}
 use Rattle.digits.specs.Places.{origin, isPosition, ahead}

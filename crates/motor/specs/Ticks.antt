@@ -1,9 +1,8 @@
 -- Document 01, "One tick", of one motor.
-use Prim.Native.Nat.{ℕ, _+_, _-_, _/_, _%_, min}
-use mathlib.Core.Bool.{Bool, true, false, _&&_, not, cond}
+use Prim.Native.Nat.{ℕ, _+_, _/_, _%_, min}
+use mathlib.Core.Bool.{Bool, _&&_, cond}
 use lib.Dec.{eqb}
 use Rattle.digits.specs.Places.{moved, ahead, countOf}
-use Rattle.motor.specs.declared.Drive.{Drive}
 use Rattle.motor.specs.declared.Motor.{Motor}
 use Rattle.motor.specs.declared.Ticked.{Ticked}
 use Rattle.motor.specs.Record.{withPlace, withDrive}

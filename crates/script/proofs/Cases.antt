@@ -1,6 +1,6 @@
 -- The script language computed on cases.
 use mathlib.Core.Path.{_≡_, refl}
-use mathlib.Core.List.{List, [], _∷_, map}
+use mathlib.Core.List.{[], _∷_, map}
 use Rattle.digits.specs.Text.{bytes}
 use Rattle.script.specs.declared.Job.the-variants.{Send, Touch, Wait, Unknown}
 use Rattle.script.specs.Jobs.{linesOf, jobOf}

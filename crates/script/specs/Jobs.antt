@@ -1,8 +1,8 @@
 -- Document 01, "Bench cases": *bench* "reads standard input: `C line`, `S x n` (x as above, contacts 0..7), `T n` (1..10000
 -- ticks, no leading zeros)".
 use Prim.Native.Nat.{ℕ, _-_}
-use mathlib.Core.List.{List, [], _∷_, _++_}
-use mathlib.Core.Bool.{Bool, true, false, _&&_, not, cond}
+use mathlib.Core.List.{List, [], _∷_}
+use mathlib.Core.Bool.{Bool, _&&_, not, cond}
 use lib.ListN.{length, getD}
 use lib.Dec.{eqb, leb}
 use Rattle.digits.specs.Text.{isHex, hexValue, digitsAtFront, valueOf}

@@ -1,16 +1,16 @@
 -- Document 01, "Bench cases": what *bench* prints. "It prints, per line, the number, then for C a space and the reply or `-`;
 -- for T, per channel with a nonzero net, a space, x, colon, signed net. Any other line prints `?`."
-use Prim.Native.Nat.{ℕ, zero, suc, _+_, _*_, _-_, _/_, _%_}
-use mathlib.Core.List.{List, [], _∷_, _++_, map}
-use mathlib.Core.Bool.{Bool, true, false, cond}
-use lib.ListN.{length, take, drop, getD, replicate}
+use Prim.Native.Nat.{ℕ, zero, suc, _+_, _-_, _/_, _%_}
+use mathlib.Core.List.{List, [], _∷_, _++_}
+use mathlib.Core.Bool.{cond}
+use lib.ListN.{take, drop, getD, replicate}
 use lib.Dec.{eqb}
-use Rattle.digits.specs.Bytes.{part, gather}
+use Rattle.digits.specs.Bytes.{gather}
 use Rattle.digits.specs.Words.{word}
 use Rattle.digits.specs.Places.{origin, placeOf}
 use Rattle.digits.specs.Text.{bytes, decimal, signedDecimal, hexDigit}
 use Rattle.table.specs.Layout.{tableSize}
-use Rattle.urqolina.specs.Calls.{CommandAfter, TableAfter, TickAfter, freshCall, commandCall, readingCall, tickCall}
+use Rattle.urqolina.specs.Calls.{CommandAfter, freshCall, commandCall, readingCall, tickCall}
 use Rattle.script.specs.declared.Job.{Job}
 use Rattle.script.specs.declared.Job.the-variants.{Send, Touch, Wait, Unknown}
 use Rattle.script.specs.Jobs.{linesOf, jobOf}

@@ -1,13 +1,12 @@
 -- The table's definitions computed on cases: the fresh table, where things stand, and what makes a table unsound.
 use mathlib.Core.Path.{_≡_, refl}
 use mathlib.Core.List.{List, [], _∷_, _++_, map}
-use mathlib.Core.Bool.{Bool, true, false}
+use mathlib.Core.Bool.{true, false}
 use Prim.Native.Nat.{ℕ}
 use lib.ListN.{length, drop, replicate}
 use Rattle.digits.specs.Bytes.{part, put}
 use Rattle.digits.specs.Places.{origin, cw}
 use Rattle.motor.specs.declared.Course.the-variants.{Along}
-use Rattle.motor.specs.declared.Motor.{Motor}
 use Rattle.motor.specs.Record.{freshMotor, withPlace}
 use Rattle.motor.specs.Drives.{started}
 use Rattle.table.specs.Layout.{mode, allReply, errors, withMode, withAllReply, withErrors, recordAt, motorAt, withMotor, withMotors, freshTable}

@@ -1,9 +1,10 @@
 -- To compute the table down to numbers and bytes, a statement says `unfolding computing-table`: it opens every
 -- definition that is otherwise shut. It says nothing itself.
+use mathlib.Core.List.{flatMap}
 use Rattle.motor.specs.Computing.{computing-motor}
 use Rattle.table.specs.Layout.{motorAt, withMotor, withMotors, freshTable}
 use Rattle.table.specs.Sound.{soundHead, soundTable}
 
 unfoldable pub computing-table : Unit {0}
-unfolding computing-motor motorAt withMotor withMotors freshTable soundHead soundTable
+unfolding computing-motor flatMap motorAt withMotor withMotors freshTable soundHead soundTable
 computing-table = tt

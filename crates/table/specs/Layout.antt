@@ -1,8 +1,8 @@
 -- Document 01, "The table: 1,088 bytes".
 use Prim.Native.Nat.{ℕ, _+_, _*_}
-use mathlib.Core.List.{List, [], _∷_, _++_}
+use mathlib.Core.List.{List, [], _∷_, _++_, flatMap}
 use lib.ListN.{take, drop, replicate}
-use Rattle.digits.specs.Bytes.{part, put, pieces, each, gather}
+use Rattle.digits.specs.Bytes.{part, put, pieces, gather}
 use Rattle.digits.specs.Words.{word}
 use Rattle.motor.specs.declared.Motor.{Motor}
 use Rattle.motor.specs.Record.{motorOf, recordOf, freshMotor}
@@ -57,7 +57,7 @@ records t = pieces 64 16 (drop 64 t)
 
 -- the table with each of the sixteen motors changed
 unfoldable pub withMotors : List ℕ → (Motor → Motor) → List ℕ
-withMotors t f = take 64 t ++ each (λ r. recordOf (f (motorOf r))) (records t)
+withMotors t f = take 64 t ++ flatMap (λ r. recordOf (f (motorOf r))) (records t)
 
 -- "Fresh: local, all-reply off, no error flags", and sixteen fresh motors
 unfoldable pub freshTable : List ℕ

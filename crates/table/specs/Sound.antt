@@ -5,7 +5,7 @@ use mathlib.Core.List.{List}
 use mathlib.Core.Bool.{Bool, _&&_}
 use lib.ListN.{length}
 use lib.Dec.{eqb, leb}
-use Rattle.digits.specs.Bytes.{part, pieces, all, allZero}
+use Rattle.digits.specs.Bytes.{part, every, allZero}
 use Rattle.motor.specs.Sound.{soundRecord}
 use Rattle.table.specs.Layout.{tableSize, mode, allReply, errors, records}
 
@@ -15,4 +15,4 @@ soundHead t = leb (mode t) 1 && leb (allReply t) 1 && leb (errors t) 15 && allZe
 
 -- "A table is *sound* when ..": its length, its head and all of its records
 unfoldable pub soundTable : List ℕ → Bool
-soundTable t = eqb (length t) tableSize && soundHead t && all soundRecord (records t)
+soundTable t = eqb (length t) tableSize && soundHead t && every soundRecord (records t)

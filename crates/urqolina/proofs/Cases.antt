@@ -1,14 +1,12 @@
 -- The calls computed on cases beyond document 01's marked ones: the order of the refusals, the replies, settings read back,
 -- switch readings, and inputs that no call may take. Each list is one statement, and its proof is the computation.
 use mathlib.Core.Path.{_≡_, refl}
-use mathlib.Core.List.{List, [], _∷_, _++_, map}
-use mathlib.Core.Bool.{Bool, true, false}
-use Prim.Native.Nat.{ℕ}
-use lib.ListN.{length, replicate, drop}
+use mathlib.Core.List.{List, [], _∷_, map}
+use lib.ListN.{replicate}
 use Rattle.digits.specs.Bytes.{put}
-use Rattle.digits.specs.Places.{cw, ccw}
+use Rattle.digits.specs.Places.{ccw}
 use Rattle.digits.specs.Text.{bytes}
-use Rattle.urqolina.specs.Calls.{TableAfter, CommandAfter, TickAfter, freshCall, commandCall, readingCall, tickCall}
+use Rattle.urqolina.specs.Calls.{freshCall, commandCall, readingCall, tickCall}
 use Rattle.urqolina.specs.Computing.{computing-urqolina}
 use Rattle.urqolina.proofs.Steps.{Step, says, reads, ticks, holds, lent, fresh, after, seen, stated}
 

@@ -4,7 +4,7 @@ use mathlib.Core.Path.{_≡_, refl}
 use mathlib.Core.List.{List}
 use mathlib.Core.Bool.{Bool, true, false, _&&_, not, cond}
 use mathlib.Core.Logic.{_⊎_, inl, inr}
-use Prim.Native.Nat.{ℕ, _+_, _*_, _%_, _≤_}
+use Prim.Native.Nat.{ℕ, _%_, _≤_}
 use native.Mathlib.Omega.{arith}
 use lib.ListN.{length}
 use lib.Dec.{eqb, leb}
@@ -25,7 +25,7 @@ use Rattle.line.specs.Forms.{orderOf}
 use Rattle.table.specs.Layout.{tableSize, mode, motorAt, freshTable}
 use Rattle.table.specs.Sound.{soundTable}
 use Rattle.urqolina.specs.Judging.{needsRemote, valueInRange, courseOf, judgeMotor, judge}
-use Rattle.urqolina.specs.Calls.{TableAfter, CommandAfter, TickAfter, freshCall, refused, obeyed, taken, commandCall, readingCall, tickCall}
+use Rattle.urqolina.specs.Calls.{freshCall, refused, obeyed, taken, commandCall, readingCall, tickCall}
 
 -- a fresh call makes the fresh table and gives 0, or gives 5 and leaves the bytes
 pub fresh-made : (t : List ℕ) → eqb (length t) tableSize ≡ true → freshCall t ≡ record { result = 0; table = freshTable }

@@ -1,15 +1,14 @@
 -- The four calls, each a function from all its inputs to all that it leaves: the result, the table, and the reply or the pulse
 -- buffer. The inputs are any lists and any numbers.
 use Prim.Native.Nat.{ℕ, _+_, _*_}
-use mathlib.Core.List.{List, [], _∷_, _++_}
-use mathlib.Core.Bool.{Bool, true, false, _&&_, not, cond}
+use mathlib.Core.List.{List, flatMap}
+use mathlib.Core.Bool.{Bool, _&&_, cond}
 use lib.ListN.{length}
 use lib.Dec.{eqb, leb}
-use Rattle.digits.specs.Bytes.{put, each}
+use Rattle.digits.specs.Bytes.{put}
 use Rattle.digits.specs.Words.{wordBytes}
 use Rattle.motor.specs.declared.Verdict.{Verdict}
 use Rattle.motor.specs.declared.Verdict.the-variants.{Done, NoForm, WrongSize, NotSound}
-use Rattle.motor.specs.declared.Motor.{Motor}
 use Rattle.motor.specs.Numbers.{numberOf}
 use Rattle.motor.specs.Record.{motorOf}
 use Rattle.motor.specs.Drives.{switchRead}
@@ -91,7 +90,7 @@ pub record TickAfter : Type 0 where
 
 -- "The pulse buffer is 64 bytes: sixteen signed 32-bit counts, CW positive, 0 for a stopped motor."
 abbrev pub counts : List ℕ → List ℕ
-counts t = each (λ r. wordBytes 4 (tickCount (motorOf r))) (records t)
+counts t = flatMap (λ r. wordBytes 4 (tickCount (motorOf r))) (records t)
 
 -- the tick call: "table not 1,088 bytes, .. pulse buffer not 64" is 5; one tick "for each driving channel"
 unfoldable pub tickCall : List ℕ → List ℕ → TickAfter

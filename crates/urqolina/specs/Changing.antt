@@ -1,7 +1,7 @@
 -- What an accepted order changes in the table, and what a refusal changes. Document 01, "Lines" and "Numbers handed back".
 use Prim.Native.Nat.{ℕ, _+_, _*_, _-_}
 use mathlib.Core.List.{List}
-use mathlib.Core.Bool.{Bool, true, false, cond}
+use mathlib.Core.Bool.{cond}
 use lib.Dec.{eqb}
 use Rattle.digits.specs.Words.{withBit, withoutBit}
 use Rattle.motor.specs.declared.Speeds.{Speeds}
