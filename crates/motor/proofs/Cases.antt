@@ -9,8 +9,8 @@ use Rattle.digits.specs.Words.{wordBytes}
 use Rattle.digits.specs.Places.{origin, cw, ccw}
 use Rattle.motor.specs.declared.Motor.{Motor}
 use Rattle.motor.specs.declared.Course.the-variants.{Stay, Beyond, To, Along}
-use Rattle.motor.specs.declared.Verdict.the-variants.{Done, Busy, OutOfRange, SwitchAhead, NoRoom}
-use Rattle.motor.specs.Record.{motorOf, recordOf, freshMotor, withPlace, withLimits, withSpeeds, withWiring}
+use Rattle.motor.specs.declared.Verdict.the-variants.{Done, OutOfRange, Disabled, SwitchAhead, NoRoom}
+use Rattle.motor.specs.Record.{motorOf, recordOf, freshMotor, withPlace, withLimits, withSpeeds, withWiring, withSetup}
 use Rattle.motor.specs.Switches.{active, blocked, room}
 use Rattle.motor.specs.Sound.{soundRecord}
 use Rattle.motor.specs.Drives.{courseTo, judgeStart, started, stopped, speedChanged, switchRead, ssend, lsend}
@@ -100,17 +100,21 @@ rooms :
 unfolding computing-motor limited atSpeed
 rooms = (refl, refl, refl, refl, refl, refl, refl, refl)
 
--- Starts as they are judged: to the present place, past the range, onto an active switch, with A = 0, with no room, and on a
--- driving motor.
+-- the fresh motor with SETMT's A at 0
+disabled : Motor
+disabled = withSetup freshMotor (record { a = 0; b = 1; c = 0; d = 0 })
+
+-- Starts of a stopped motor as they are judged: to the present place, whatever A says; past the range; with A = 0; onto an
+-- active switch; and with no room.
 starts :
-    (judgeStart freshMotor (courseTo freshMotor cw origin 0) ≡ Done)
+    (courseTo freshMotor cw origin 0 ≡ Stay) × (judgeStart disabled Stay ≡ Done)
     × (courseTo freshMotor ccw origin 2147483648 ≡ Beyond) × (courseTo freshMotor cw (origin + 1) 2147483647 ≡ Beyond)
-    × (courseTo freshMotor ccw (origin - 1) 2147483646 ≡ To 1) × (judgeStart freshMotor Beyond ≡ OutOfRange)
-    × (judgeStart (wired 0b00010001 0) (Along cw) ≡ SwitchAhead) × (judgeStart (wired 0b00010001 0) (Along ccw) ≡ Done)
-    × (judgeStart (limited 800 0) (To (origin + 9)) ≡ NoRoom) × (judgeStart (limited 800 0) (To (origin - 9)) ≡ Done)
-    × (judgeStart (started freshMotor (Along cw)) Stay ≡ Busy)
-unfolding computing-motor wired limited atSpeed
-starts = (refl, refl, refl, refl, refl, refl, refl, refl, refl, refl)
+    × (courseTo freshMotor ccw (origin - 1) 2147483646 ≡ To 1) × (judgeStart disabled Beyond ≡ OutOfRange)
+    × (judgeStart disabled (Along cw) ≡ Disabled) × (judgeStart (wired 0b00010001 0) (Along cw) ≡ SwitchAhead)
+    × (judgeStart (wired 0b00010001 0) (Along ccw) ≡ Done) × (judgeStart (limited 800 0) (To (origin + 9)) ≡ NoRoom)
+    × (judgeStart (limited 800 0) (To (origin - 9)) ≡ Done)
+unfolding computing-motor disabled wired limited atSpeed
+starts = (refl, refl, refl, refl, refl, refl, refl, refl, refl, refl, refl)
 
 -- a fresh record's bytes, and those of a record that drives
 fresh-bytes : List ℕ

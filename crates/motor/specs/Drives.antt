@@ -8,7 +8,7 @@ use Rattle.motor.specs.declared.Motor.{Motor}
 use Rattle.motor.specs.declared.Course.{Course}
 use Rattle.motor.specs.declared.Course.the-variants.{Stay, Beyond, To, Along}
 use Rattle.motor.specs.declared.Verdict.{Verdict}
-use Rattle.motor.specs.declared.Verdict.the-variants.{Done, Busy, OutOfRange, Disabled, SwitchAhead, NoRoom, NotDriving}
+use Rattle.motor.specs.declared.Verdict.the-variants.{Done, OutOfRange, Disabled, SwitchAhead, NoRoom, NotDriving}
 use Rattle.motor.specs.Record.{withWiring, withDrive, standing}
 use Rattle.motor.specs.Switches.{blocked, room}
 use Rattle.motor.specs.Sound.{driving}
@@ -52,16 +52,13 @@ hindrance m going =
     (cond (eqb (room going m) 0) NoRoom
     Done))
 
--- "target out of range .., the other causes of 4"; ABS to the present position and REL 0 "meet no later check"
-abbrev pub judgeCourse : Motor → Course → Verdict
-judgeCourse m Stay = Done
-judgeCourse m Beyond = OutOfRange
-judgeCourse m (To p) = hindrance m (towards m p)
-judgeCourse m (Along going) = hindrance m going
-
--- "busy, target out of range (3, for REL and JOG, only on a stopped motor), the other causes of 4"
+-- of a stopped motor: "target out of range (3, for REL and JOG ..), the other causes of 4"; ABS to the present position and
+-- REL 0 "meet no later check"
 unfoldable pub judgeStart : Motor → Course → Verdict
-judgeStart m c = cond (driving m) Busy (judgeCourse m c)
+judgeStart m Stay = Done
+judgeStart m Beyond = OutOfRange
+judgeStart m (To p) = hindrance m (towards m p)
+judgeStart m (Along going) = hindrance m going
 
 -- "A start takes the selected speed, fraction 0, and clears the end flags."
 abbrev pub launched : Motor → ℕ → ℕ → ℕ → Motor

@@ -16,7 +16,7 @@ use Rattle.motor.specs.declared.Course.the-variants.{Stay, Beyond, To, Along}
 use Rattle.motor.specs.Numbers.{numberOf}
 use Rattle.motor.specs.Switches.{blocked, room}
 use Rattle.motor.specs.Sound.{driving}
-use Rattle.motor.specs.Drives.{hindrance, towards, judgeCourse, judgeStart}
+use Rattle.motor.specs.Drives.{hindrance, towards, judgeStart}
 use Rattle.line.specs.declared.Order.{Order}
 use Rattle.line.specs.declared.Order.the-variants.{Go, Stop, StopAll, ChangeSpeed, Set, Ask, Mode, AllReply, AskHead, ClearErrors, ClearError}
 use Rattle.line.specs.declared.Parsed.{Parsed}
@@ -24,7 +24,7 @@ use Rattle.line.specs.declared.Parsed.the-variants.{Is, Nothing}
 use Rattle.line.specs.Forms.{orderOf}
 use Rattle.table.specs.Layout.{tableSize, mode, motorAt, freshTable}
 use Rattle.table.specs.Sound.{soundTable}
-use Rattle.urqolina.specs.Judging.{needsRemote, valueInRange, courseOf, judgeMotor, judge}
+use Rattle.urqolina.specs.Judging.{needsRemote, valueInRange, courseOf, busy, judgeMotor, judge}
 use Rattle.urqolina.specs.Calls.{freshCall, refused, obeyed, taken, commandCall, readingCall, tickCall}
 
 -- a fresh call makes the fresh table and gives 0, or gives 5 and leaves the bytes
@@ -101,22 +101,20 @@ hindrance-number m going =
     (either (blocked going m) SwitchAhead space (omega arith)
     (either (eqb (room going m) 0) NoRoom Done (omega arith) (omega arith)))
 
-course-number : (m : Motor) (c : Course) → numberOf (judgeCourse m c) ≤ 4
-unfolding numberOf
-course-number m Stay = omega arith
-course-number m Beyond = omega arith
-course-number m (To p) = hindrance-number m (towards m p)
-course-number m (Along going) = hindrance-number m going
+start-number : (m : Motor) (c : Course) → numberOf (judgeStart m c) ≤ 4
+unfolding judgeStart numberOf
+start-number m Stay = omega arith
+start-number m Beyond = omega arith
+start-number m (To p) = hindrance-number m (towards m p)
+start-number m (Along going) = hindrance-number m going
 
 motor-number : (t : List ℕ) (o : Order) → numberOf (judgeMotor t o) ≤ 4
-unfolding judgeMotor judgeStart numberOf
-motor-number t (Go x s) =
-    let m : Motor = motorAt t x in
-    either (driving m) Busy (judgeCourse m (courseOf m s)) (omega arith) (course-number m (courseOf m s))
+unfolding judgeMotor numberOf
+motor-number t (Go x s) = start-number (motorAt t x) (courseOf (motorAt t x) s)
 motor-number t (Stop x e) = omega arith
 motor-number t (StopAll e) = omega arith
 motor-number t (ChangeSpeed x v) = either (driving (motorAt t x)) Done NotDriving (omega arith) (omega arith)
-motor-number t (Set x s) = either (driving (motorAt t x)) Busy Done (omega arith) (omega arith)
+motor-number t (Set x s) = omega arith
 motor-number t (Ask x q) = omega arith
 motor-number t (Mode k) = omega arith
 motor-number t (AllReply k) = omega arith
@@ -127,9 +125,11 @@ motor-number t (ClearError e) = omega arith
 pub judge-number : (t : List ℕ) (o : Order) → numberOf (judge t o) ≤ 4
 unfolding judge numberOf
 judge-number t o =
-    let valued : Verdict = cond (not (valueInRange o)) OutOfRange (judgeMotor t o) in
+    let free : Verdict = cond (busy t o) Busy (judgeMotor t o) in
+    let valued : Verdict = cond (not (valueInRange o)) OutOfRange free in
     either (needsRemote o && eqb (mode t) 0) LocalMode valued (omega arith)
-    (either (not (valueInRange o)) OutOfRange (judgeMotor t o) (omega arith) (motor-number t o))
+    (either (not (valueInRange o)) OutOfRange free (omega arith)
+    (either (busy t o) Busy (judgeMotor t o) (omega arith) (motor-number t o)))
 
 -- "The command's result is the number plus 256 times the reply length."
 refused-number : (t : List ℕ) (v : Verdict) (reply : List ℕ) → numberOf v ≤ 4 → refused t v reply .result % 256 ≤ 4

@@ -94,13 +94,27 @@ courseOf m (Rel w) = courseTo m (directionOf w) (m .place) (w .digits)
 courseOf m (Scan going) = Along going
 courseOf m (Jog going) = courseTo m going (m .place) 1
 
--- what is left to judge once mode and value are right: busy, and the causes that lie in the motor
+-- "a start, setting or speed selection (not SPC) of a driving channel"
+unfoldable pub busy : List ℕ → Order → Bool
+busy t (Go x s) = driving (motorAt t x)
+busy t (Stop x e) = false
+busy t (StopAll e) = false
+busy t (ChangeSpeed x v) = false
+busy t (Set x s) = driving (motorAt t x)
+busy t (Ask x q) = false
+busy t (Mode k) = false
+busy t (AllReply k) = false
+busy t (AskHead q) = false
+busy t ClearErrors = false
+busy t (ClearError e) = false
+
+-- what is judged after busy: "target out of range .., the other causes of 4", which lie in the motor
 unfoldable pub judgeMotor : List ℕ → Order → Verdict
 judgeMotor t (Go x s) = judgeStart (motorAt t x) (courseOf (motorAt t x) s)
 judgeMotor t (Stop x e) = Done
 judgeMotor t (StopAll e) = Done
 judgeMotor t (ChangeSpeed x v) = judgeSpeedChange (motorAt t x)
-judgeMotor t (Set x s) = cond (driving (motorAt t x)) Busy Done
+judgeMotor t (Set x s) = Done
 judgeMotor t (Ask x q) = Done
 judgeMotor t (Mode k) = Done
 judgeMotor t (AllReply k) = Done
@@ -113,4 +127,5 @@ unfoldable pub judge : List ℕ → Order → Verdict
 judge t o =
     cond (needsRemote o && eqb (mode t) 0) LocalMode
     (cond (not (valueInRange o)) OutOfRange
-    (judgeMotor t o))
+    (cond (busy t o) Busy
+    (judgeMotor t o)))
