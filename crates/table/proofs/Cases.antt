@@ -5,9 +5,9 @@ use mathlib.Core.Bool.{true, false}
 use Prim.Native.Nat.{ℕ}
 use lib.ListN.{length, drop, replicate}
 use Rattle.digits.specs.Bytes.{part, put}
-use Rattle.digits.specs.Places.{origin, cw}
+use Rattle.digits.specs.Places.{cw}
 use Rattle.motor.specs.declared.Course.the-variants.{Along}
-use Rattle.motor.specs.Record.{freshMotor, withPlace}
+use Rattle.motor.specs.Record.{freshMotor}
 use Rattle.motor.specs.Drives.{started}
 use Rattle.table.specs.Layout.{mode, allReply, errors, withMode, withAllReply, withErrors, recordAt, motorAt, withMotor, withMotors, freshTable}
 use Rattle.table.specs.Sound.{soundTable}
@@ -23,19 +23,17 @@ fresh :
 unfolding computing-table
 fresh = (refl, refl, refl, refl, refl, refl)
 
--- a motor is read where it was written, the neighbours and the head are as they were, and the table is as long
-written : List ℕ
-written = withMotor freshTable 11 (withPlace freshMotor (origin))
-
+-- a table whose channel 11 drives
 away : List ℕ
 away = withMotor freshTable 11 (started freshMotor (Along cw))
 
+-- a motor is read where it was written, the neighbours and the head are as they were, and the table is as long
 placed :
-    (written ≡ freshTable) × (motorAt away 11 ≡ started freshMotor (Along cw)) × (motorAt away 10 ≡ freshMotor)
+    (withMotor freshTable 11 freshMotor ≡ freshTable) × (motorAt away 11 ≡ started freshMotor (Along cw)) × (motorAt away 10 ≡ freshMotor)
     × (motorAt away 12 ≡ freshMotor) × (part away 800 8 ≡ 1 ∷ 0 ∷ 0 ∷ 0 ∷ 0x20 ∷ 0x03 ∷ 0 ∷ 0 ∷ []) × (length away ≡ 1088)
     × (part away 0 768 ≡ part freshTable 0 768) × (part away 832 256 ≡ part freshTable 832 256) × (soundTable away ≡ true)
     × (withMotors away (λ m. freshMotor) ≡ freshTable) × (withMotors away (λ m. m) ≡ away)
-unfolding computing-table written away
+unfolding computing-table away
 placed = (refl, refl, refl, refl, refl, refl, refl, refl, refl, refl, refl)
 
 -- the head's three fields stand at bytes 0, 1 and 2
