@@ -21,7 +21,7 @@ same (a ∷ s) (b ∷ t) = eqb a b && same s t
 
 -- "digits": the byte is one of 0-9
 abbrev pub isDigit : ℕ → Bool
-isDigit b = leb 48 b && leb b 57
+isDigit b = leb (code "0") b && leb b (code "9")
 
 -- how many digits stand at the front of a text
 unfoldable pub digitsAtFront : List ℕ → ℕ
@@ -31,7 +31,7 @@ digitsAtFront (b ∷ s) = cond (isDigit b) (suc (digitsAtFront s)) 0
 -- the number that digits write, after those that wrote n
 unfoldable pub valueFrom : ℕ → List ℕ → ℕ
 valueFrom n [] = n
-valueFrom n (b ∷ s) = valueFrom (10 * n + (b - 48)) s
+valueFrom n (b ∷ s) = valueFrom (10 * n + (b - code "0")) s
 
 -- the number that digits write
 abbrev pub valueOf : List ℕ → ℕ
@@ -39,16 +39,16 @@ valueOf s = valueFrom 0 s
 
 -- "x is one of 0-9, A-F": whether a byte is one
 abbrev pub isHex : ℕ → Bool
-isHex b = isDigit b || (leb 65 b && leb b 70)
+isHex b = isDigit b || (leb (code "A") b && leb b (code "F"))
 
 -- "x is one of 0-9, A-F": the number that such a byte stands for
 unfoldable pub hexValue : ℕ → ℕ
-hexValue b = cond (isDigit b) (b - 48) (b - 55)
+hexValue b = cond (isDigit b) (b - code "0") (10 + (b - code "A"))
 
 -- the last k digits of n
 unfoldable pub lastDigits : ℕ → ℕ → List ℕ
 lastDigits zero n = []
-lastDigits (suc k) n = lastDigits k (n / 10) ++ ((48 + n % 10) ∷ [])
+lastDigits (suc k) n = lastDigits k (n / 10) ++ ((code "0" + n % 10) ∷ [])
 
 -- how many of 10, 100, .. up to 10 to the k are not above n
 unfoldable pub powersUpTo : ℕ → ℕ → ℕ
@@ -66,11 +66,11 @@ decimal k n = lastDigits (max k (digitCount n)) n
 -- "a sign (+ for 0) and at least 7 digits": the position of a place, with at least k digits
 unfoldable pub signedDecimal : ℕ → ℕ → List ℕ
 signedDecimal k p =
-    cond (leb origin p) (43 ∷ decimal k (ahead cw origin p)) (45 ∷ decimal k (ahead ccw origin p))
+    cond (leb origin p) (code "+" ∷ decimal k (ahead cw origin p)) (code "-" ∷ decimal k (ahead ccw origin p))
 
 -- "Hex is in capitals": the digit of a number below 16
 unfoldable pub hexDigit : ℕ → ℕ
-hexDigit n = cond (ltb n 10) (48 + n) (55 + n)
+hexDigit n = cond (ltb n 10) (code "0" + n) (code "A" + (n - 10))
 
 -- "two hex digits": those of a byte
 unfoldable pub hexByte : ℕ → List ℕ

@@ -1,5 +1,6 @@
 -- Document 01, "Lines": the fields that a line is made of, each read off the front of the bytes that are left, and the shapes
 -- that they make.
+use Prim.Native.Char.{code}
 use Prim.Native.Nat.{ℕ, _-_}
 use mathlib.Core.List.{List, [], _∷_}
 use mathlib.Core.Bool.{Bool, true, false, _&&_, cond}
@@ -95,20 +96,24 @@ readNumber minus f s =
 -- "±d: a sign, then 1 to 10 digits"
 unfoldable pub readSigned : Fields → List ℕ → Got
 readSigned f [] = absent
-readSigned f (b ∷ s) = cond (eqb b 43) (readNumber false f s) (cond (eqb b 45) (readNumber true f s) absent)
+readSigned f (b ∷ s) = cond (eqb b (code "+")) (readNumber false f s) (cond (eqb b (code "-")) (readNumber true f s) absent)
+
+-- the digit that stands at a place of a text
+abbrev pub digitAt : List ℕ → ℕ → ℕ
+digitAt s n = getD s n (code "0") - code "0"
 
 -- "e one digit"
 unfoldable pub readDigit : Fields → List ℕ → Got
-readDigit f s = gotIf (leb 1 (digitsAtFront s)) (withWritten f false (getD s 0 48 - 48)) (drop 1 s)
+readDigit f s = gotIf (leb 1 (digitsAtFront s)) (withWritten f false (digitAt s 0)) (drop 1 s)
 
 -- "`STSx?`": the question mark
 unfoldable pub readQuestion : Fields → List ℕ → Got
 readQuestion f [] = absent
-readQuestion f (b ∷ s) = gotIf (eqb b 63) f s
+readQuestion f (b ∷ s) = gotIf (eqb b (code "?")) f s
 
 -- the four digits at the front of a text
 abbrev pub fourOf : List ℕ → Four
-fourOf s = record { a = getD s 0 48 - 48; b = getD s 1 48 - 48; c = getD s 2 48 - 48; d = getD s 3 48 - 48 }
+fourOf s = record { a = digitAt s 0; b = digitAt s 1; c = digitAt s 2; d = digitAt s 3 }
 
 -- "In SETLS and SETMT each letter after x is one decimal digit"
 unfoldable pub readFour : Fields → List ℕ → Got
@@ -116,7 +121,7 @@ readFour f s = gotIf (leb 4 (digitsAtFront s)) (withFirst f (fourOf s)) (drop 4 
 
 -- "and the 0 is itself"
 unfoldable pub readZeroThree : Fields → List ℕ → Got
-readZeroThree f s = gotIf (leb 4 (digitsAtFront s) && eqb (getD s 0 0) 48) (withSecond f (fourOf s)) (drop 4 s)
+readZeroThree f s = gotIf (leb 4 (digitsAtFront s) && eqb (digitAt s 0) 0) (withSecond f (fourOf s)) (drop 4 s)
 
 -- a field of each kind
 abbrev pub readField : Field → Fields → List ℕ → Got

@@ -1,5 +1,6 @@
 -- Document 01, "Bench cases": *bench* "reads standard input: `C line`, `S x n` (x as above, contacts 0..7), `T n` (1..10000
 -- ticks, no leading zeros)".
+use Prim.Native.Char.{code}
 use Prim.Native.Nat.{ℕ, _-_}
 use mathlib.Core.List.{List, [], _∷_}
 use mathlib.Core.Bool.{Bool, _&&_, not, cond}
@@ -18,7 +19,7 @@ joined b (l ∷ ls) = (b ∷ l) ∷ ls
 -- empty input has no line.
 unfoldable pub linesOf : List ℕ → List (List ℕ)
 linesOf [] = []
-linesOf (b ∷ s) = cond (eqb b 10) ([] ∷ linesOf s) (joined b (linesOf s))
+linesOf (b ∷ s) = cond (eqb b (code "\n")) ([] ∷ linesOf s) (joined b (linesOf s))
 
 -- a job if a test holds; else it is "any other line"
 abbrev pub jobIf : Bool → Job → Job
@@ -27,22 +28,22 @@ jobIf test j = cond test j Unknown
 -- "`S x n` (x as above, contacts 0..7)": after `S ` come x, a blank, and one digit
 unfoldable pub touchOf : List ℕ → Job
 touchOf s =
-    jobIf (eqb (length s) 3 && isHex (getD s 0 0) && eqb (getD s 1 0) 32 && (leb 48 (getD s 2 0) && leb (getD s 2 0) 55))
-    (Touch (hexValue (getD s 0 0)) (getD s 2 0 - 48))
+    jobIf (eqb (length s) 3 && isHex (getD s 0 0) && eqb (getD s 1 0) (code " ") && (leb (code "0") (getD s 2 0) && leb (getD s 2 0) (code "7")))
+    (Touch (hexValue (getD s 0 0)) (getD s 2 0 - code "0"))
 
 -- "`T n` (1..10000 ticks, no leading zeros)": after `T ` come digits and nothing else
 unfoldable pub waitOf : List ℕ → Job
 waitOf s =
     jobIf (leb 1 (length s) && leb (length s) 5 && eqb (digitsAtFront s) (length s)
-    && (not (eqb (getD s 0 0) 48) && leb (valueOf s) 10000))
+    && (not (eqb (getD s 0 0) (code "0")) && leb (valueOf s) 10000))
     (Wait (valueOf s))
 
 -- "`C line`, `S x n`, `T n`": by the letter, with what comes after it and its blank
 unfoldable pub lettered : ℕ → List ℕ → Job
-lettered k s = cond (eqb k 67) Send (cond (eqb k 83) (touchOf s) (cond (eqb k 84) (waitOf s) Unknown))
+lettered k s = cond (eqb k (code "C")) Send (cond (eqb k (code "S")) (touchOf s) (cond (eqb k (code "T")) (waitOf s) Unknown))
 
 -- what a line asks for
 unfoldable pub jobOf : List ℕ → Job
 jobOf [] = Unknown
 jobOf (k ∷ []) = Unknown
-jobOf (k ∷ b ∷ s) = jobIf (eqb b 32) (lettered k s)
+jobOf (k ∷ b ∷ s) = jobIf (eqb b (code " ")) (lettered k s)

@@ -1,5 +1,6 @@
 -- Document 01, "Bench cases": what *bench* prints. "It prints, per line, the number, then for C a space and the reply or `-`;
 -- for T, per channel with a nonzero net, a space, x, colon, signed net. Any other line prints `?`."
+use Prim.Native.Char.{code}
 use Prim.Native.Nat.{ℕ, zero, suc, _+_, _-_, _/_, _%_}
 use mathlib.Core.List.{List, [], _∷_, _++_}
 use mathlib.Core.Bool.{cond}
@@ -35,7 +36,7 @@ replyText (b ∷ s) = b ∷ s
 
 -- "the number, then for C a space and the reply or `-`": the result is the number plus 256 times the reply's length
 unfoldable pub commandText : CommandAfter → List ℕ
-commandText r = plainText (r .result % 256) ++ (32 ∷ replyText (take (r .result / 256) (r .reply)))
+commandText r = plainText (r .result % 256) ++ (code " " ∷ replyText (take (r .result / 256) (r .reply)))
 
 -- C: the command call, with a reply buffer of 32 bytes
 unfoldable pub sent : List ℕ → List ℕ → Printed
@@ -74,7 +75,7 @@ waited (suc n) w = waited n (tickOf w)
 
 -- "per channel with a nonzero net, a space, x, colon, signed net"
 unfoldable pub netText : List ℕ → ℕ → List ℕ
-netText nets c = cond (eqb (getD nets c origin) origin) [] (32 ∷ hexDigit c ∷ 58 ∷ signedText (getD nets c origin))
+netText nets c = cond (eqb (getD nets c origin) origin) [] (code " " ∷ hexDigit c ∷ code ":" ∷ signedText (getD nets c origin))
 
 -- the number, and the nets in the channels' order
 unfoldable pub waitedText : Waited → List ℕ
@@ -98,7 +99,7 @@ unfoldable pub printed : List ℕ → List (List ℕ) → List ℕ
 printed t [] = []
 printed t (l ∷ ls) =
     let r = jobDone t l (jobOf l) in
-    r .text ++ (10 ∷ printed (r .table) ls)
+    r .text ++ (code "\n" ∷ printed (r .table) ls)
 
 -- "*bench* makes one fresh table and reads standard input": what it writes for an input
 unfoldable pub bench : List ℕ → List ℕ

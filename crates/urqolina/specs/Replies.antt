@@ -1,9 +1,11 @@
 -- Document 01, "Numbers handed back": what is answered.
+use Prim.Native.Char.{code}
 use Prim.Native.Nat.{ℕ, _+_}
 use mathlib.Core.List.{List, [], _∷_, _++_}
 use mathlib.Core.Bool.{Bool, _&&_, not, cond}
 use lib.Dec.{eqb}
 use Rattle.digits.specs.Words.{bit, isSet}
+use Rattle.digits.specs.Places.{cw}
 use Rattle.digits.specs.Text.{bytes, decimal, signedDecimal, hexDigit, hexByte}
 use Rattle.motor.specs.declared.Motor.{Motor}
 use Rattle.motor.specs.declared.Verdict.{Verdict}
@@ -47,7 +49,7 @@ selectedText k = cond (eqb k 0) (bytes "LSPD") (cond (eqb k 1) (bytes "MSPD") (b
 
 -- the byte of a decimal digit
 abbrev pub digitByte : ℕ → ℕ
-digitByte n = 48 + n
+digitByte n = code "0" + n
 
 -- `SETLS?`: DYYY0yyy, a digit each (000)
 unfoldable pub switchesText : ℕ → List ℕ
@@ -76,11 +78,11 @@ statusHH m = cond (driving m) 3 (m .ended)
 
 -- "R or L": R is remote mode, L local
 unfoldable pub modeLetter : ℕ → ℕ
-modeLetter k = cond (eqb k 0) 76 82
+modeLetter k = cond (eqb k 0) (code "L") (code "R")
 
 -- "P, N or S": driving CW, driving CCW, stopped
 unfoldable pub goingLetter : ℕ → ℕ
-goingLetter g = cond (eqb g 0) 83 (cond (eqb g 1) 80 78)
+goingLetter g = cond (eqb g 0) (code "S") (cond (eqb g cw) (code "P") (code "N"))
 
 -- "`STSx?`: R or L; x; P, N or S; one hex digit V; two hex digits HH; position."
 unfoldable pub statusText : ℕ → ℕ → Motor → List ℕ
