@@ -23,6 +23,14 @@ same (a ∷ s) (b ∷ t) = eqb a b && same s t
 abbrev pub isDigit : ℕ → Bool
 isDigit b = leb (code "0") b && leb b (code "9")
 
+-- the number below 10 that a digit stands for
+abbrev pub digitValue : ℕ → ℕ
+digitValue b = b - code "0"
+
+-- the digit of a number below 10
+abbrev pub digitByte : ℕ → ℕ
+digitByte n = code "0" + n
+
 -- how many digits stand at the front of a text
 unfoldable pub digitsAtFront : List ℕ → ℕ
 digitsAtFront [] = 0
@@ -31,7 +39,7 @@ digitsAtFront (b ∷ s) = cond (isDigit b) (suc (digitsAtFront s)) 0
 -- the number that digits write, after those that wrote n
 unfoldable pub valueFrom : ℕ → List ℕ → ℕ
 valueFrom n [] = n
-valueFrom n (b ∷ s) = valueFrom (10 * n + (b - code "0")) s
+valueFrom n (b ∷ s) = valueFrom (10 * n + digitValue b) s
 
 -- the number that digits write
 abbrev pub valueOf : List ℕ → ℕ
@@ -43,12 +51,12 @@ isHex b = isDigit b || (leb (code "A") b && leb b (code "F"))
 
 -- "x is one of 0-9, A-F": the number that such a byte stands for
 unfoldable pub hexValue : ℕ → ℕ
-hexValue b = cond (isDigit b) (b - code "0") (10 + (b - code "A"))
+hexValue b = cond (isDigit b) (digitValue b) (10 + (b - code "A"))
 
 -- the last k digits of n
 unfoldable pub lastDigits : ℕ → ℕ → List ℕ
 lastDigits zero n = []
-lastDigits (suc k) n = lastDigits k (n / 10) ++ ((code "0" + n % 10) ∷ [])
+lastDigits (suc k) n = lastDigits k (n / 10) ++ (digitByte (n % 10) ∷ [])
 
 -- how many of 10, 100, .. up to 10 to the k are not above n
 unfoldable pub powersUpTo : ℕ → ℕ → ℕ
@@ -70,7 +78,7 @@ signedDecimal k p =
 
 -- "Hex is in capitals": the digit of a number below 16
 unfoldable pub hexDigit : ℕ → ℕ
-hexDigit n = cond (ltb n 10) (code "0" + n) (code "A" + (n - 10))
+hexDigit n = cond (ltb n 10) (digitByte n) (code "A" + (n - 10))
 
 -- "two hex digits": those of a byte
 unfoldable pub hexByte : ℕ → List ℕ

@@ -66,13 +66,21 @@ startRows =
     ∷ row "JOGN" x (starting (λ f. Jog ccw))
     ∷ []
 
--- `SSTPx`, `ESTPx`, `ASSTP`, `AESTP`; `SPCxd`. "SSTP and ASSTP with SSEND, ESTP and AESTP with ESEND": 40h and 80h.
+-- "40h SSEND"
+abbrev pub ssend : ℕ
+ssend = 0x40
+
+-- "80h ESEND"
+abbrev pub esend : ℕ
+esend = 0x80
+
+-- `SSTPx`, `ESTPx`, `ASSTP`, `AESTP`; `SPCxd`. "SSTP and ASSTP with SSEND, ESTP and AESTP with ESEND"
 abbrev pub stopRows : List Row
 stopRows =
-    row "SSTP" x (λ f. Stop (f .channel) 0x40)
-    ∷ row "ESTP" x (λ f. Stop (f .channel) 0x80)
-    ∷ row "ASSTP" alone (λ f. StopAll 0x40)
-    ∷ row "AESTP" alone (λ f. StopAll 0x80)
+    row "SSTP" x (λ f. Stop (f .channel) ssend)
+    ∷ row "ESTP" x (λ f. Stop (f .channel) esend)
+    ∷ row "ASSTP" alone (λ f. StopAll ssend)
+    ∷ row "AESTP" alone (λ f. StopAll esend)
     ∷ row "SPC" xd (λ f. ChangeSpeed (f .channel) (f .written .digits))
     ∷ []
 

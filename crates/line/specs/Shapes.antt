@@ -1,12 +1,12 @@
 -- Document 01, "Lines": the fields that a line is made of, each read off the front of the bytes that are left, and the shapes
 -- that they make.
 use Prim.Native.Char.{code}
-use Prim.Native.Nat.{ℕ, _-_}
+use Prim.Native.Nat.{ℕ}
 use mathlib.Core.List.{List, [], _∷_}
 use mathlib.Core.Bool.{Bool, true, false, _&&_, cond}
 use lib.ListN.{take, drop, getD}
 use lib.Dec.{leb, eqb}
-use Rattle.digits.specs.Text.{isHex, hexValue, digitsAtFront, valueOf}
+use Rattle.digits.specs.Text.{isHex, hexValue, digitValue, digitsAtFront, valueOf}
 use Rattle.line.specs.declared.Four.{Four}
 use Rattle.line.specs.declared.Fields.{Fields}
 
@@ -100,7 +100,7 @@ readSigned f (b ∷ s) = cond (eqb b (code "+")) (readNumber false f s) (cond (e
 
 -- the digit that stands at a place of a text
 abbrev pub digitAt : List ℕ → ℕ → ℕ
-digitAt s n = getD s n (code "0") - code "0"
+digitAt s n = digitValue (getD s n (code "0"))
 
 -- "e one digit"
 unfoldable pub readDigit : Fields → List ℕ → Got

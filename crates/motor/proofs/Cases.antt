@@ -13,7 +13,7 @@ use Rattle.motor.specs.declared.Verdict.the-variants.{Done, OutOfRange, 
 use Rattle.motor.specs.Record.{motorOf, recordOf, freshMotor, withPlace, withLimits, withSpeeds, withWiring, withSetup}
 use Rattle.motor.specs.Switches.{active, blocked, room}
 use Rattle.motor.specs.Sound.{soundRecord}
-use Rattle.motor.specs.Drives.{courseTo, judgeStart, started, stopped, speedChanged, switchRead, ssend, lsend}
+use Rattle.motor.specs.Drives.{courseTo, judgeStart, started, stopped, speedChanged, switchRead, lsend}
 use Rattle.motor.specs.Ticks.{tickMotor}
 use Rattle.motor.specs.Computing.{computing-motor}
 
@@ -48,8 +48,8 @@ fraction-carried = (refl, refl, refl)
 
 -- A stop drops the fraction: it zeroes bytes 32 to 43, and the next drive's first tick gives none.
 fraction-dropped :
-    (part (recordOf (stopped ssend (ticks 1 (started freshMotor (Along cw))))) 31 13 ≡ 0x40 ∷ 0 ∷ 0 ∷ 0 ∷ 0 ∷ 0 ∷ 0 ∷ 0 ∷ 0 ∷ 0 ∷ 0 ∷ 0 ∷ 0 ∷ [])
-    × (pulses 2 (started (stopped ssend (ticks 1 (started freshMotor (Along cw)))) (Along cw)) ≡ 0 ∷ 1 ∷ [])
+    (part (recordOf (stopped 0x40 (ticks 1 (started freshMotor (Along cw))))) 31 13 ≡ 0x40 ∷ 0 ∷ 0 ∷ 0 ∷ 0 ∷ 0 ∷ 0 ∷ 0 ∷ 0 ∷ 0 ∷ 0 ∷ 0 ∷ 0 ∷ [])
+    × (pulses 2 (started (stopped 0x40 (ticks 1 (started freshMotor (Along cw)))) (Along cw)) ≡ 0 ∷ 1 ∷ [])
 unfolding computing-motor ticks pulses
 fraction-dropped = (refl, refl)
 

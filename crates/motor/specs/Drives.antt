@@ -13,14 +13,6 @@ use Rattle.motor.specs.Record.{withWiring, withDrive, standing}
 use Rattle.motor.specs.Switches.{blocked, room}
 use Rattle.motor.specs.Sound.{driving}
 
--- "80h ESEND"
-abbrev pub esend : ℕ
-esend = 0x80
-
--- "40h SSEND"
-abbrev pub ssend : ℕ
-ssend = 0x40
-
 -- "20h LSEND"
 abbrev pub lsend : ℕ
 lsend = 0x20

@@ -1,12 +1,12 @@
 -- Document 01, "Bench cases": *bench* "reads standard input: `C line`, `S x n` (x as above, contacts 0..7), `T n` (1..10000
 -- ticks, no leading zeros)".
 use Prim.Native.Char.{code}
-use Prim.Native.Nat.{ℕ, _-_}
+use Prim.Native.Nat.{ℕ}
 use mathlib.Core.List.{List, [], _∷_}
 use mathlib.Core.Bool.{Bool, _&&_, not, cond}
 use lib.ListN.{length, getD}
 use lib.Dec.{eqb, leb}
-use Rattle.digits.specs.Text.{isHex, hexValue, digitsAtFront, valueOf}
+use Rattle.digits.specs.Text.{isDigit, digitValue, isHex, hexValue, digitsAtFront, valueOf}
 use Rattle.script.specs.declared.Job.{Job}
 use Rattle.script.specs.declared.Job.the-variants.{Send, Touch, Wait, Unknown}
 
@@ -28,8 +28,9 @@ jobIf test j = cond test j Unknown
 -- "`S x n` (x as above, contacts 0..7)": after `S ` come x, a blank, and one digit
 unfoldable pub touchOf : List ℕ → Job
 touchOf s =
-    jobIf (eqb (length s) 3 && isHex (getD s 0 0) && eqb (getD s 1 0) (code " ") && (leb (code "0") (getD s 2 0) && leb (getD s 2 0) (code "7")))
-    (Touch (hexValue (getD s 0 0)) (getD s 2 0 - code "0"))
+    jobIf (eqb (length s) 3 && isHex (getD s 0 0) && eqb (getD s 1 0) (code " ")
+    && (isDigit (getD s 2 0) && leb (digitValue (getD s 2 0)) 7))
+    (Touch (hexValue (getD s 0 0)) (digitValue (getD s 2 0)))
 
 -- "`T n` (1..10000 ticks, no leading zeros)": after `T ` come digits and nothing else
 unfoldable pub waitOf : List ℕ → Job

@@ -12,6 +12,7 @@ use Rattle.digits.specs.Places.{countOf}
 use Rattle.digits.specs.Text.{bytes}
 use Rattle.urqolina.specs.Calls.{freshCall, commandCall, readingCall, tickCall}
 
+-- a call, with what it must give
 pub data Step : Type 0 where
   -- a command line, the number that it gives and the reply
   says : S.String → ℕ → S.String → Step
@@ -35,11 +36,12 @@ pub record Shown : Type 0 where
   pub result : ℕ
   pub buffer : List ℕ
 
--- and the table after it
+-- what a step leaves: what it shows, and the table after it
 pub record After : Type 0 where
   pub shown : Shown
   pub table : List ℕ
 
+-- a step made on a table; a step that looks at the table changes nothing
 unfoldable pub after : List ℕ → Step → After
 after t (says s n r) =
     let a = commandCall t (bytes s) (lent 32) in
@@ -52,16 +54,18 @@ after t (ticks c g n) =
     record { shown = record { result = a .result; buffer = a .pulses }; table = a .table }
 after t (holds at b) = record { shown = record { result = 0; buffer = part t at (length b) }; table = t }
 
+-- what the definitions show for a list of steps, each made on the table that the one before it left
 unfoldable pub seen : List ℕ → List Step → List Shown
 seen t [] = []
 seen t (s ∷ ss) =
     let a = after t s in
     a .shown ∷ seen (a .table) ss
 
--- the same as the list states it: a reply leaves the rest of the buffer as it was
+-- the reply that a list states, in a lent buffer: the bytes past it as they were
 abbrev pub replied : ℕ → List ℕ → Shown
 replied n text = record { result = n + 256 * length text; buffer = text ++ lent (32 - length text) }
 
+-- what the list states for a step
 unfoldable pub stated : Step → Shown
 stated (says s n r) = replied n (bytes r)
 stated (reads c k n) = record { result = n; buffer = [] }

@@ -6,7 +6,7 @@ use mathlib.Core.Bool.{Bool, _&&_, not, cond}
 use lib.Dec.{eqb}
 use Rattle.digits.specs.Words.{bit, isSet}
 use Rattle.digits.specs.Places.{cw}
-use Rattle.digits.specs.Text.{bytes, decimal, signedDecimal, hexDigit, hexByte}
+use Rattle.digits.specs.Text.{bytes, digitByte, decimal, signedDecimal, hexDigit, hexByte}
 use Rattle.motor.specs.declared.Motor.{Motor}
 use Rattle.motor.specs.declared.Verdict.{Verdict}
 use Rattle.motor.specs.declared.Verdict.the-variants.{Done, NoForm, Busy, OutOfRange, LocalMode, Disabled, SwitchAhead, NoRoom, NotDriving, WrongSize, NotSound}
@@ -46,10 +46,6 @@ speedText v = decimal 6 v
 -- "`SPD?` HSPD, MSPD or LSPD"
 unfoldable pub selectedText : ℕ → List ℕ
 selectedText k = cond (eqb k 0) (bytes "LSPD") (cond (eqb k 1) (bytes "MSPD") (bytes "HSPD"))
-
--- the byte of a decimal digit
-abbrev pub digitByte : ℕ → ℕ
-digitByte n = code "0" + n
 
 -- `SETLS?`: DYYY0yyy, a digit each (000)
 unfoldable pub switchesText : ℕ → List ℕ
