@@ -8,13 +8,13 @@ use lib.Dec.{eqb, leb}
 use Rattle.digits.specs.Bytes.{part, allZero}
 use Rattle.digits.specs.Words.{isSet}
 use Rattle.digits.specs.Places.{origin, isPosition, ahead}
-use Rattle.motor.specs.declared.Limits.{Limits}
-use Rattle.motor.specs.declared.Speeds.{Speeds}
-use Rattle.motor.specs.declared.Wiring.{Wiring}
-use Rattle.motor.specs.declared.Setup.{Setup}
-use Rattle.motor.specs.declared.Drive.{Drive}
-use Rattle.motor.specs.declared.Motor.{Motor}
-use Rattle.motor.specs.Record.{motorOf}
+use Rattle.record.specs.declared.Limits.{Limits}
+use Rattle.record.specs.declared.Speeds.{Speeds}
+use Rattle.record.specs.declared.Wiring.{Wiring}
+use Rattle.record.specs.declared.Setup.{Setup}
+use Rattle.record.specs.declared.Drive.{Drive}
+use Rattle.record.specs.declared.Motor.{Motor}
+use Rattle.record.specs.Record.{motorOf}
 use Rattle.motor.specs.Switches.{blocked, room}
 
 -- "Speeds run from 1 to 5,000,000 pulses per second"

@@ -4,8 +4,8 @@ use mathlib.Core.Bool.{Bool, _&&_, _||_, not, cond}
 use lib.Dec.{eqb}
 use Rattle.digits.specs.Words.{isSet}
 use Rattle.digits.specs.Places.{lowest, highest, ahead, cw}
-use Rattle.motor.specs.declared.Wiring.{Wiring}
-use Rattle.motor.specs.declared.Motor.{Motor}
+use Rattle.record.specs.declared.Wiring.{Wiring}
+use Rattle.record.specs.declared.Motor.{Motor}
 
 -- "bit 0 CW, bit 1 CCW, bit 2 HP": switches are numbered by their bits; this is the switch that a direction runs into
 abbrev pub switchOf : ℕ → ℕ

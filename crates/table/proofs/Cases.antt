@@ -5,10 +5,9 @@ use mathlib.Core.Bool.{true, false}
 use Prim.Native.Nat.{ℕ}
 use lib.ListN.{length, drop, replicate}
 use Rattle.digits.specs.Bytes.{part, put}
-use Rattle.digits.specs.Places.{cw}
-use Rattle.motor.specs.declared.Course.the-variants.{Along}
-use Rattle.motor.specs.Record.{freshMotor}
-use Rattle.motor.specs.Drives.{started}
+use Rattle.digits.specs.Places.{origin, cw}
+use Rattle.record.specs.declared.Motor.{Motor}
+use Rattle.record.specs.Record.{freshMotor, withDrive}
 use Rattle.table.specs.Layout.{mode, allReply, errors, withMode, withAllReply, withErrors, recordAt, motorAt, withMotor, withMotors, freshTable}
 use Rattle.table.specs.Sound.{soundTable}
 use Rattle.table.specs.Computing.{computing-table}
@@ -23,17 +22,20 @@ fresh :
 unfolding computing-table
 fresh = (refl, refl, refl, refl, refl, refl)
 
--- a table whose channel 11 drives
+-- a fresh motor that scans CW at 800 pps, and a table whose channel 11 does
+scanning : Motor
+scanning = withDrive freshMotor 0 (record { going = cw; kind = 0; fraction = 0; speed = 800; target = origin })
+
 away : List ℕ
-away = withMotor freshTable 11 (started freshMotor (Along cw))
+away = withMotor freshTable 11 scanning
 
 -- a motor is read where it was written, the neighbours and the head are as they were, and the table is as long
 placed :
-    (withMotor freshTable 11 freshMotor ≡ freshTable) × (motorAt away 11 ≡ started freshMotor (Along cw)) × (motorAt away 10 ≡ freshMotor)
+    (withMotor freshTable 11 freshMotor ≡ freshTable) × (motorAt away 11 ≡ scanning) × (motorAt away 10 ≡ freshMotor)
     × (motorAt away 12 ≡ freshMotor) × (part away 800 8 ≡ 1 ∷ 0 ∷ 0 ∷ 0 ∷ 0x20 ∷ 0x03 ∷ 0 ∷ 0 ∷ []) × (length away ≡ 1088)
     × (part away 0 768 ≡ part freshTable 0 768) × (part away 832 256 ≡ part freshTable 832 256) × (soundTable away ≡ true)
     × (withMotors away (λ m. freshMotor) ≡ freshTable) × (withMotors away (λ m. m) ≡ away)
-unfolding computing-table away
+unfolding computing-table away scanning
 placed = (refl, refl, refl, refl, refl, refl, refl, refl, refl, refl, refl)
 
 -- the head's three fields stand at bytes 0, 1 and 2

@@ -1,7 +1,7 @@
 -- To compute the table down to numbers and bytes, a statement says `unfolding computing-table`: it opens every
 -- definition that is otherwise shut. It says nothing itself.
-use mathlib.Core.List.{flatMap}
 use Rattle.motor.specs.Computing.{computing-motor}
+use mathlib.Core.List.{flatMap}
 use Rattle.table.specs.Layout.{motorAt, withMotor, withMotors, freshTable}
 use Rattle.table.specs.Sound.{soundHead, soundTable}
 

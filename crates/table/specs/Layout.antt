@@ -4,8 +4,8 @@ use mathlib.Core.List.{List, [], _∷_, _++_, flatMap}
 use lib.ListN.{take, drop, replicate}
 use Rattle.digits.specs.Bytes.{part, put, pieces, gather}
 use Rattle.digits.specs.Words.{word}
-use Rattle.motor.specs.declared.Motor.{Motor}
-use Rattle.motor.specs.Record.{motorOf, recordOf, freshMotor}
+use Rattle.record.specs.declared.Motor.{Motor}
+use Rattle.record.specs.Record.{motorOf, recordOf, freshMotor}
 
 -- "1,088 bytes"
 abbrev pub tableSize : ℕ

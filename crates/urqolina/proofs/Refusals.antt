@@ -8,15 +8,15 @@ use Prim.Native.Nat.{ℕ, _%_, _≤_}
 use native.Mathlib.Omega.{arith}
 use lib.ListN.{length}
 use lib.Dec.{eqb, leb}
-use Rattle.motor.specs.declared.Verdict.{Verdict}
-use Rattle.motor.specs.declared.Verdict.the-variants.{Done, NoForm, Busy, OutOfRange, LocalMode, Disabled, SwitchAhead, NoRoom, NotDriving}
-use Rattle.motor.specs.declared.Motor.{Motor}
-use Rattle.motor.specs.declared.Course.{Course}
-use Rattle.motor.specs.declared.Course.the-variants.{Stay, Beyond, To, Along}
-use Rattle.motor.specs.Numbers.{numberOf}
+use Rattle.drive.specs.declared.Verdict.{Verdict}
+use Rattle.drive.specs.declared.Verdict.the-variants.{Done, NoForm, Busy, OutOfRange, LocalMode, Disabled, SwitchAhead, NoRoom, NotDriving}
+use Rattle.record.specs.declared.Motor.{Motor}
+use Rattle.drive.specs.declared.Course.{Course}
+use Rattle.drive.specs.declared.Course.the-variants.{Stay, Beyond, To, Along}
+use Rattle.drive.specs.Numbers.{numberOf}
 use Rattle.motor.specs.Switches.{blocked, room}
 use Rattle.motor.specs.Sound.{driving}
-use Rattle.motor.specs.Drives.{hindrance, towards, judgeStart}
+use Rattle.drive.specs.Drives.{hindrance, towards, judgeStart}
 use Rattle.line.specs.declared.Order.{Order}
 use Rattle.line.specs.declared.Order.the-variants.{Go, Stop, StopAll, ChangeSpeed, Set, Ask, Mode, AllReply, AskHead, ClearErrors, ClearError}
 use Rattle.line.specs.declared.Parsed.{Parsed}

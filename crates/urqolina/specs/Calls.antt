@@ -7,12 +7,12 @@ use lib.ListN.{length}
 use lib.Dec.{eqb, leb}
 use Rattle.digits.specs.Bytes.{put}
 use Rattle.digits.specs.Words.{wordBytes}
-use Rattle.motor.specs.declared.Verdict.{Verdict}
-use Rattle.motor.specs.declared.Verdict.the-variants.{Done, NoForm, WrongSize, NotSound}
-use Rattle.motor.specs.Numbers.{numberOf}
-use Rattle.motor.specs.Record.{motorOf}
-use Rattle.motor.specs.Drives.{switchRead}
-use Rattle.motor.specs.Ticks.{tickMotor, tickCount}
+use Rattle.drive.specs.declared.Verdict.{Verdict}
+use Rattle.drive.specs.declared.Verdict.the-variants.{Done, NoForm, WrongSize, NotSound}
+use Rattle.drive.specs.Numbers.{numberOf}
+use Rattle.record.specs.Record.{motorOf}
+use Rattle.drive.specs.Drives.{switchRead}
+use Rattle.drive.specs.Ticks.{tickMotor, tickCount}
 use Rattle.line.specs.declared.Order.{Order}
 use Rattle.line.specs.declared.Parsed.{Parsed}
 use Rattle.line.specs.declared.Parsed.the-variants.{Is, Nothing}

@@ -4,12 +4,12 @@ use mathlib.Core.List.{List}
 use mathlib.Core.Bool.{cond}
 use lib.Dec.{eqb}
 use Rattle.digits.specs.Words.{withBit, withoutBit}
-use Rattle.motor.specs.declared.Speeds.{Speeds}
-use Rattle.motor.specs.declared.Motor.{Motor}
-use Rattle.motor.specs.declared.Verdict.{Verdict}
-use Rattle.motor.specs.Numbers.{numberOf}
-use Rattle.motor.specs.Record.{withPlace, withLimits, withSpeeds, withWiring, withSetup}
-use Rattle.motor.specs.Drives.{started, stopped, speedChanged}
+use Rattle.record.specs.declared.Speeds.{Speeds}
+use Rattle.record.specs.declared.Motor.{Motor}
+use Rattle.drive.specs.declared.Verdict.{Verdict}
+use Rattle.drive.specs.Numbers.{numberOf}
+use Rattle.record.specs.Record.{withPlace, withLimits, withSpeeds, withWiring, withSetup}
+use Rattle.drive.specs.Drives.{started, stopped, speedChanged}
 use Rattle.line.specs.declared.Four.{Four}
 use Rattle.line.specs.declared.Setting.{Setting}
 use Rattle.line.specs.declared.Setting.the-variants.{Preset, SetCwLimit, SetCcwLimit, Select, SetSpeed, SetSwitches, SetMotor}

@@ -1,5 +1,6 @@
 -- To compute the four calls down to numbers and bytes, a statement says `unfolding computing-urqolina`: it opens every
 -- definition that is otherwise shut. It says nothing itself.
+use Rattle.drive.specs.Computing.{computing-drive}
 use Rattle.line.specs.Computing.{computing-line}
 use Rattle.table.specs.Computing.{computing-table}
 use Rattle.urqolina.specs.Judging.{needsRemote, valueInRange, busy, judgeMotor, judge}
@@ -8,5 +9,5 @@ use Rattle.urqolina.specs.Replies.{textOf, selectedText, switchesText, m
 use Rattle.urqolina.specs.Calls.{freshCall, refused, obeyed, taken, commandCall, readingCall, tickCall}
 
 unfoldable pub computing-urqolina : Unit {0}
-unfolding computing-line computing-table needsRemote valueInRange busy judgeMotor judge withSetting changed flagged textOf selectedText switchesText motorText statusV statusHH modeLetter goingLetter statusText questionText errorText echo headText answer freshCall refused obeyed taken commandCall readingCall tickCall
+unfolding computing-drive computing-line computing-table needsRemote valueInRange busy judgeMotor judge withSetting changed flagged textOf selectedText switchesText motorText statusV statusHH modeLetter goingLetter statusText questionText errorText echo headText answer freshCall refused obeyed taken commandCall readingCall tickCall
 computing-urqolina = tt

@@ -4,14 +4,14 @@ use mathlib.Core.List.{List}
 use mathlib.Core.Bool.{Bool, true, false, _&&_, not, cond}
 use lib.Dec.{eqb, leb}
 use Rattle.digits.specs.Places.{origin, moved, cw, ccw}
-use Rattle.motor.specs.declared.Setup.{Setup}
-use Rattle.motor.specs.declared.Motor.{Motor}
-use Rattle.motor.specs.declared.Course.{Course}
-use Rattle.motor.specs.declared.Course.the-variants.{Along}
-use Rattle.motor.specs.declared.Verdict.{Verdict}
-use Rattle.motor.specs.declared.Verdict.the-variants.{Done, Busy, OutOfRange, LocalMode}
+use Rattle.record.specs.declared.Setup.{Setup}
+use Rattle.record.specs.declared.Motor.{Motor}
+use Rattle.drive.specs.declared.Course.{Course}
+use Rattle.drive.specs.declared.Course.the-variants.{Along}
+use Rattle.drive.specs.declared.Verdict.{Verdict}
+use Rattle.drive.specs.declared.Verdict.the-variants.{Done, Busy, OutOfRange, LocalMode}
 use Rattle.motor.specs.Sound.{isSpeed, setupInRange, driving}
-use Rattle.motor.specs.Drives.{courseTo, judgeStart, judgeSpeedChange}
+use Rattle.drive.specs.Drives.{courseTo, judgeStart, judgeSpeedChange}
 use Rattle.line.specs.declared.Written.{Written}
 use Rattle.line.specs.declared.Four.{Four}
 use Rattle.line.specs.declared.Start.{Start}

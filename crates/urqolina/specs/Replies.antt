@@ -7,12 +7,12 @@ use lib.Dec.{eqb}
 use Rattle.digits.specs.Words.{bit, isSet}
 use Rattle.digits.specs.Places.{cw}
 use Rattle.digits.specs.Text.{bytes, digitByte, decimal, signedDecimal, hexDigit, hexByte}
-use Rattle.motor.specs.declared.Motor.{Motor}
-use Rattle.motor.specs.declared.Verdict.{Verdict}
-use Rattle.motor.specs.declared.Verdict.the-variants.{Done, NoForm, Busy, OutOfRange, LocalMode, Disabled, SwitchAhead, NoRoom, NotDriving, WrongSize, NotSound}
+use Rattle.record.specs.declared.Motor.{Motor}
+use Rattle.drive.specs.declared.Verdict.{Verdict}
+use Rattle.drive.specs.declared.Verdict.the-variants.{Done, NoForm, Busy, OutOfRange, LocalMode, Disabled, SwitchAhead, NoRoom, NotDriving, WrongSize, NotSound}
 use Rattle.motor.specs.Switches.{active}
 use Rattle.motor.specs.Sound.{driving}
-use Rattle.motor.specs.Drives.{speedNumbered}
+use Rattle.drive.specs.Drives.{speedNumbered}
 use Rattle.line.specs.declared.Question.{Question}
 use Rattle.line.specs.declared.Question.the-variants.{AskPosition, AskCwLimit, AskCcwLimit, AskSelected, AskSpeed, AskSwitches, AskMotor, AskStatus}
 use Rattle.line.specs.declared.HeadQuestion.{HeadQuestion}

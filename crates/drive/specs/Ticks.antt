@@ -3,12 +3,12 @@ use Prim.Native.Nat.{ℕ, _+_, _/_, _%_, min}
 use mathlib.Core.Bool.{Bool, _&&_, cond}
 use lib.Dec.{eqb}
 use Rattle.digits.specs.Places.{moved, ahead, countOf}
-use Rattle.motor.specs.declared.Motor.{Motor}
-use Rattle.motor.specs.declared.Ticked.{Ticked}
-use Rattle.motor.specs.Record.{withPlace, withDrive}
+use Rattle.record.specs.declared.Motor.{Motor}
+use Rattle.drive.specs.declared.Ticked.{Ticked}
+use Rattle.record.specs.Record.{withPlace, withDrive}
 use Rattle.motor.specs.Switches.{room}
 use Rattle.motor.specs.Sound.{driving}
-use Rattle.motor.specs.Drives.{endedWith, lsend}
+use Rattle.drive.specs.Drives.{endedWith, lsend}
 
 -- the speed that a tick goes at: "the speed in force"; a motor that stands stopped goes at none
 unfoldable pub tickSpeed : Motor → ℕ

@@ -5,12 +5,12 @@ use lib.ListN.{replicate}
 use Rattle.digits.specs.Bytes.{part}
 use Rattle.digits.specs.Words.{word, wordBytes}
 use Rattle.digits.specs.Places.{origin, placeOf, wordOf}
-use Rattle.motor.specs.declared.Limits.{Limits}
-use Rattle.motor.specs.declared.Speeds.{Speeds}
-use Rattle.motor.specs.declared.Wiring.{Wiring}
-use Rattle.motor.specs.declared.Setup.{Setup}
-use Rattle.motor.specs.declared.Drive.{Drive}
-use Rattle.motor.specs.declared.Motor.{Motor}
+use Rattle.record.specs.declared.Limits.{Limits}
+use Rattle.record.specs.declared.Speeds.{Speeds}
+use Rattle.record.specs.declared.Wiring.{Wiring}
+use Rattle.record.specs.declared.Setup.{Setup}
+use Rattle.record.specs.declared.Drive.{Drive}
+use Rattle.record.specs.declared.Motor.{Motor}
 
 -- the byte at an offset of a record
 abbrev pub byteAt : List ℕ → ℕ → ℕ

@@ -3,15 +3,15 @@ use Prim.Native.Nat.{ℕ}
 use mathlib.Core.Bool.{_&&_, cond}
 use lib.Dec.{eqb, ltb}
 use Rattle.digits.specs.Places.{origin, isPosition, moved, cw, ccw}
-use Rattle.motor.specs.declared.Speeds.{Speeds}
-use Rattle.motor.specs.declared.Motor.{Motor}
-use Rattle.motor.specs.declared.Course.{Course}
-use Rattle.motor.specs.declared.Course.the-variants.{Stay, Beyond, To, Along}
-use Rattle.motor.specs.declared.Verdict.{Verdict}
-use Rattle.motor.specs.declared.Verdict.the-variants.{Done, OutOfRange, Disabled, SwitchAhead, NoRoom, NotDriving}
-use Rattle.motor.specs.Record.{withWiring, withDrive, standing}
+use Rattle.record.specs.declared.Speeds.{Speeds}
+use Rattle.record.specs.declared.Motor.{Motor}
+use Rattle.drive.specs.declared.Course.{Course}
+use Rattle.drive.specs.declared.Course.the-variants.{Stay, Beyond, To, Along}
+use Rattle.drive.specs.declared.Verdict.{Verdict}
+use Rattle.drive.specs.declared.Verdict.the-variants.{Done, OutOfRange, Disabled, SwitchAhead, NoRoom, NotDriving}
+use Rattle.record.specs.Record.{withWiring, withDrive, standing}
 use Rattle.motor.specs.Switches.{blocked, room}
 use Rattle.motor.specs.Sound.{driving}
 
 -- "20h LSEND"
 abbrev pub lsend : ℕ

@@ -1,7 +1,7 @@
 -- Document 01, "Numbers handed back".
 use Prim.Native.Nat.{ℕ}
-use Rattle.motor.specs.declared.Verdict.{Verdict}
-use Rattle.motor.specs.declared.Verdict.the-variants.{Done, NoForm, Busy, OutOfRange, LocalMode, Disabled, SwitchAhead, NoRoom, NotDriving, WrongSize, NotSound}
+use Rattle.drive.specs.declared.Verdict.{Verdict}
+use Rattle.drive.specs.declared.Verdict.the-variants.{Done, NoForm, Busy, OutOfRange, LocalMode, Disabled, SwitchAhead, NoRoom, NotDriving, WrongSize, NotSound}
 
 -- the number for each verdict:
 -- 0 "done";

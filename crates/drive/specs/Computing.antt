@@ -1,0 +1,10 @@
+-- To compute the rules of a drive down to numbers and bytes, a statement says `unfolding computing-drive`: it opens every
+-- definition that is otherwise shut. It says nothing itself.
+use Rattle.motor.specs.Computing.{computing-motor}
+use Rattle.drive.specs.Numbers.{numberOf}
+use Rattle.drive.specs.Drives.{speedNumbered, courseTo, towards, hindrance, judgeStart, started, stopped, speedChanged, switchRead}
+use Rattle.drive.specs.Ticks.{tickSpeed, due, rest, distanceLeft, given, reached, usedUp, drivenOn, tickMotor, tickCount}
+
+unfoldable pub computing-drive : Unit {0}
+unfolding computing-motor numberOf speedNumbered courseTo towards hindrance judgeStart started stopped speedChanged switchRead tickSpeed due rest distanceLeft given reached usedUp drivenOn tickMotor tickCount
+computing-drive = tt

@@ -1,0 +1,4 @@
+pub mod Numbers
+pub mod Drives
+pub mod Ticks
+pub mod Computing
