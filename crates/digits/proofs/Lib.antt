@@ -1,3 +1,4 @@
 pub mod Cases
-pub mod Words
+pub mod WordLaws
+pub mod BufferLaws
 pub mod Signed

@@ -14,7 +14,7 @@ use mir.Val.{toZ}
 use borrow.Author.Tests.{ltb-true, ltb-false, lt-ltb, le-ltb}
 use Rattle.digits.specs.Words.{word, wordBytes}
 use Rattle.digits.specs.Places.{origin, placeOf, wordOf, countOf, cw, ccw}
-use Rattle.digits.proofs.Words.{word-bytes}
+use Rattle.digits.proofs.WordLaws.{word-bytes}
 
 -- the two halves of the range: the shift is up for the one that is not negative, down for the other
 low : (w : ℕ) → w < 2147483648 → placeOf w ≡ w + 2147483648
