@@ -1,12 +1,13 @@
 -- Laws of what is read from a buffer and written to it. Assumes nothing.
 use mathlib.Core.Path.{_≡_, refl, ap, sym, _∙_}
-use mathlib.Core.List.{List, [], _∷_, _++_, append-assoc}
+use mathlib.Core.List.{List, [], _∷_, _++_, append-assoc, append-nil}
+use mathlib.Core.Bool.{_&&_, and-assoc}
 use Prim.Native.Nat.{ℕ, zero, suc, _+_, _*_, _^_, _≤_, _<_}
-use native.Mathlib.Numerals.{add-one}
+use native.Mathlib.Nat.{add-assoc, zero-add, add-zero}
 use native.Mathlib.Omega.{arith}
-use lib.ListN.{length, take, drop, getD, length-append, length-take, length-drop}
-use lib.Seq.{drop-cons, drop-drop, take-add, length-take-le, sets, sets-eq}
-use Rattle.digits.specs.Bytes.{part, put}
+use lib.ListN.{length, take, drop, getD, length-append, length-take, length-drop, take-append-drop}
+use lib.Seq.{drop-cons, drop-drop, drop-length, take-add, take-at, take-length, drop-at, length-take-le, sets, sets-eq}
+use Rattle.digits.specs.Bytes.{part, put, joined, allZero}
 use Rattle.digits.specs.Words.{word}
 
 -- A part has the bytes that it is to have, where the buffer has them.
@@ -28,3 +29,62 @@ part-one s at h = rw (drop-cons s at 0)
 pub stores-put : (b s : List ℕ) (at : ℕ) → at + length b ≤ length s → sets s at b ≡ put s at b
 unfolding put
 stores-put b s at h = sets-eq b s at h ∙ append-assoc (take at s) b (drop (at + length b) s)
+
+-- What is written keeps the buffer's length.
+pub put-length : (s : List ℕ) (at : ℕ) (b : List ℕ) → at + length b ≤ length s → length (put s at b) ≡ length s
+unfolding put
+put-length s at b h = simp (length-append, length-take, length-drop) (omega arith)
+
+-- Two runs written one after the other are both written at once.
+pub put-next : (s : List ℕ) (at : ℕ) (a b : List ℕ) → at + length a + length b ≤ length s
+    → put (put s at a) (at + length a) b ≡ put s at (a ++ b)
+unfolding put
+put-next s at a b h =
+    let n = at + length a in
+    let front = take at s ++ a in
+    let f : length front ≡ n = simp (length-append, length-take) (omega arith) in
+    rw (← append-assoc (take at s) a (drop n s), take-at front (drop n s) n f, ← drop-drop (length b) n (front ++ drop n s), drop-at front (drop n s) n f, drop-drop (length b) n s)
+    (simp (append-assoc, length-append, add-assoc))
+
+-- What is written over the whole buffer is all that it holds.
+pub put-whole : (s b : List ℕ) → length b ≡ length s → put s 0 b ≡ b
+unfolding put
+put-whole s b e = rw (zero-add, e, drop-length s, append-nil)
+
+-- runs of bytes written one after the other, from a place on
+abbrev pub lay : List ℕ → ℕ → List (List ℕ) → List ℕ
+lay s at [] = s
+lay s at (b ∷ bs) = lay (put s at b) (at + length b) bs
+
+pub lay-put : (bs : List (List ℕ)) (s : List ℕ) (at : ℕ) → at + length (joined bs) ≤ length s → lay s at bs ≡ put s at (joined bs)
+unfolding joined
+lay-put [] s at h = unfold put in (rw (add-zero, take-append-drop))
+lay-put (b ∷ bs) s at h =
+    let n : length (b ++ joined bs) ≡ length b + length (joined bs) = length-append b (joined bs) in
+    let l : length (put s at b) ≡ length s = put-length s at b (omega arith) in
+    rw (lay-put bs (put s at b) (at + length b) (omega arith)) (put-next s at b (joined bs) (omega arith))
+
+-- parts of the widths given, one after the other from a place on
+abbrev pub cut : List ℕ → ℕ → List ℕ → List (List ℕ)
+cut s at [] = []
+cut s at (w ∷ ws) = part s at w ∷ cut s (at + w) ws
+
+abbrev pub total : List ℕ → ℕ
+total [] = 0
+total (w ∷ ws) = w + total ws
+
+pub cut-joined : (ws : List ℕ) (s : List ℕ) (at : ℕ) → joined (cut s at ws) ≡ part s at (total ws)
+unfolding joined
+cut-joined [] s at = unfold part in refl
+cut-joined (w ∷ ws) s at = rw (cut-joined ws s (at + w), part-add s at w (total ws))
+
+-- The part that is the whole buffer is all that it holds.
+pub part-whole : (s : List ℕ) → part s 0 (length s) ≡ s
+unfolding part
+part-whole s = take-length s
+
+-- Every byte of two runs is zero where every byte of each is.
+pub zero-append : (a b : List ℕ) → allZero (a ++ b) ≡ (allZero a && allZero b)
+unfolding allZero
+zero-append [] b = refl
+zero-append (x ∷ a) b = rw (zero-append a b, and-assoc)

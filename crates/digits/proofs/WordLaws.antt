@@ -1,11 +1,14 @@
 -- Laws of words, over the width. Assumes nothing.
-use mathlib.Core.Path.{_≡_, refl, ap, _∙_}
+use mathlib.Core.Path.{_≡_, refl, ap, sym}
 use mathlib.Core.List.{List, [], _∷_, _++_}
-use Prim.Native.Nat.{ℕ, zero, suc, _+_, _*_, _/_, _^_, _<_, _≤_}
-use native.Mathlib.Nat.{mod-add-div, div-lt-iff-lt-mul, pow-suc, mul-right-comm}
+use mathlib.Core.Bool.{Bool, true, false, _&&_}
+use Prim.Native.Nat.{ℕ, zero, suc, _+_, _*_, _/_, _%_, _^_, _<_, _≤_}
+use native.Mathlib.Nat.{mod-add-div, div-lt-iff-lt-mul, pow-suc, mul-right-comm, suc-ne-zero, suc-inj}
 use native.Mathlib.Omega.{arith}
-use lib.ListN.{length}
-use Rattle.digits.specs.Bytes.{part}
+use lib.ListN.{length, getD}
+use lib.Dec.{eqb}
+use borrow.Author.Tests.{eqb-true, eqb-false, eq-eqb, ne-eqb}
+use Rattle.digits.specs.Bytes.{part, allZero}
 use Rattle.digits.specs.Words.{word, wordBytes}
 use Rattle.digits.proofs.BufferLaws.{part-add, part-length}
 
@@ -33,3 +36,41 @@ word-append (x ∷ a) b = rw (word-append a b, pow-suc, mul-right-comm (256 ^ le
 pub word-part : (s : List ℕ) (at m n : ℕ) → at + m ≤ length s
     → word (part s at (m + n)) ≡ word (part s at m) + 256 ^ m * word (part s (at + m) n)
 word-part s at m n h = rw (part-add s at m n, word-append (part s at m) (part s (at + m) n), part-length s at m h)
+
+-- Bytes are the bytes that the number they stand for is written in, if each of them is a byte.
+pub bytes-word : (w : ℕ) (s : List ℕ) → length s ≡ w → ((k : ℕ) → getD s k 0 < 256) → wordBytes w (word s) ≡ s
+unfolding word wordBytes
+bytes-word zero [] e h = refl
+bytes-word zero (b ∷ s) e h = absurd (suc-ne-zero _ e)
+bytes-word (suc w) [] e h = absurd (suc-ne-zero _ (sym e))
+bytes-word (suc w) (b ∷ s) e h =
+    let l : b < 256 = h 0 in
+    let low : (b + 256 * word s) % 256 ≡ b = omega arith in
+    let high : (b + 256 * word s) / 256 ≡ word s = omega arith in
+    rw (low, high, bytes-word w s (suc-inj e) (λ k. h (suc k)))
+
+-- A word is below what its width can hold.
+pub word-below : (w : ℕ) (s : List ℕ) → length s ≡ w → ((k : ℕ) → getD s k 0 < 256) → word s < 256 ^ w
+unfolding word
+word-below zero [] e h = omega arith
+word-below zero (b ∷ s) e h = absurd (suc-ne-zero _ e)
+word-below (suc w) [] e h = absurd (suc-ne-zero _ (sym e))
+word-below (suc w) (b ∷ s) e h =
+    let l : b < 256 = h 0 in
+    let r : word s < 256 ^ w = word-below w s (suc-inj e) (λ k. h (suc k)) in
+    rw (pow-suc) (omega arith)
+
+-- A number is zero where all its bytes are.
+pub word-zero : (s : List ℕ) → eqb (word s) 0 ≡ allZero s
+unfolding word allZero
+word-zero [] = refl
+word-zero (b ∷ s) = rw (← word-zero s) (sum-zero b (word s))
+  where
+    sum-zero : (b n : ℕ) → eqb (b + 256 * n) 0 ≡ (eqb b 0 && eqb n 0)
+    sum-zero b n = go (eqb b 0) refl (eqb n 0) refl
+      where
+        go : (t : Bool) → eqb b 0 ≡ t → (u : Bool) → eqb n 0 ≡ u → eqb (b + 256 * n) 0 ≡ (t && u)
+        go true e true f = let p : b ≡ 0 = eqb-true b 0 e in let q : n ≡ 0 = eqb-true n 0 f in eq-eqb (b + 256 * n) 0 (omega arith)
+        go true e false f = let q : n ≡ 0 → ⊥ = eqb-false n 0 f in ne-eqb (b + 256 * n) 0 (λ z. q (omega arith))
+        go false e true f = let q : b ≡ 0 → ⊥ = eqb-false b 0 e in ne-eqb (b + 256 * n) 0 (λ z. q (omega arith))
+        go false e false f = let q : b ≡ 0 → ⊥ = eqb-false b 0 e in ne-eqb (b + 256 * n) 0 (λ z. q (omega arith))

@@ -13,6 +13,11 @@ part t at n = take n (drop at t)
 unfoldable pub put : List ℕ → ℕ → List ℕ → List ℕ
 put t at b = take at t ++ (b ++ drop (at + length b) t)
 
+-- runs of bytes one after the other
+unfoldable pub joined : List (List ℕ) → List ℕ
+joined [] = []
+joined (b ∷ bs) = b ++ joined bs
+
 -- the first k pieces of w bytes each, one after the other
 unfoldable pub pieces : ℕ → ℕ → List ℕ → List (List ℕ)
 pieces w zero s = []

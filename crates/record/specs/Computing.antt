@@ -1,8 +1,8 @@
 -- To compute a record down to numbers and bytes, a statement says `unfolding computing-record`: it opens every
 -- definition that is otherwise shut. It says nothing itself.
 use Rattle.digits.specs.Computing.{computing-digits}
-use Rattle.record.specs.Record.{motorOf, recordOf, freshMotor}
+use Rattle.record.specs.Record.{motorOf, settingBytes, recordOf, freshMotor}
 
 unfoldable pub computing-record : Unit {0}
-unfolding computing-digits motorOf recordOf freshMotor
+unfolding computing-digits motorOf settingBytes recordOf freshMotor
 computing-record = tt

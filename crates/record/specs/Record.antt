@@ -1,8 +1,8 @@
 -- Document 01, "The table": one record of 64 bytes, read out and written back, and the record of a fresh table.
 use Prim.Native.Nat.{ℕ, _+_, _-_}
-use mathlib.Core.List.{List, [], _∷_, _++_}
+use mathlib.Core.List.{List, [], _∷_}
 use lib.ListN.{replicate}
-use Rattle.digits.specs.Bytes.{part}
+use Rattle.digits.specs.Bytes.{part, joined}
 use Rattle.digits.specs.Words.{word, wordBytes}
 use Rattle.digits.specs.Places.{origin, placeOf, wordOf}
 use Rattle.record.specs.declared.Limits.{Limits}
@@ -68,25 +68,36 @@ motorOf b =
 abbrev pub placeBytes : ℕ → List ℕ
 placeBytes p = wordBytes 4 (wordOf p)
 
+-- 4-7, 8-11 as they are written
+abbrev pub limitBytes : Limits → List ℕ
+limitBytes l = joined (placeBytes (l .cw) ∷ placeBytes (l .ccw) ∷ [])
+
 -- 12-15, 16-19, 20-23, 24 as they are written
 abbrev pub speedBytes : Speeds → List ℕ
-speedBytes s = wordBytes 4 (s .high) ++ (wordBytes 4 (s .middle) ++ (wordBytes 4 (s .low) ++ (s .selected ∷ [])))
+speedBytes s = joined (wordBytes 4 (s .high) ∷ wordBytes 4 (s .middle) ∷ wordBytes 4 (s .low) ∷ (s .selected ∷ []) ∷ [])
+
+-- 25, 26 as they are written
+abbrev pub wiringBytes : Wiring → List ℕ
+wiringBytes w = w .setls ∷ w .contacts ∷ []
 
 -- 27, 28, 29, 30 as they are written
 abbrev pub setupBytes : Setup → List ℕ
 setupBytes s = s .a ∷ s .b ∷ s .c ∷ s .d ∷ []
 
+-- 0-30 as they are written: the position and the settings
+unfoldable pub settingBytes : Motor → List ℕ
+settingBytes m =
+    joined
+    (placeBytes (m .place) ∷ limitBytes (m .limits) ∷ speedBytes (m .speeds) ∷ wiringBytes (m .wiring) ∷ setupBytes (m .setup) ∷ [])
+
 -- 32, 33, 34-35, 36-39, 40-43 as they are written
 abbrev pub driveBytes : Drive → List ℕ
 driveBytes d =
-    d .going ∷ d .kind ∷ (wordBytes 2 (d .fraction) ++ (wordBytes 4 (d .speed) ++ placeBytes (d .target)))
+    joined ((d .going ∷ d .kind ∷ []) ∷ wordBytes 2 (d .fraction) ∷ wordBytes 4 (d .speed) ∷ placeBytes (d .target) ∷ [])
 
 -- the record of a motor: the topics in the order of their bytes, and "44-63 | zero"
 unfoldable pub recordOf : Motor → List ℕ
-recordOf m =
-    placeBytes (m .place) ++ (placeBytes (m .limits .cw) ++ (placeBytes (m .limits .ccw) ++ (speedBytes (m .speeds)
-    ++ (m .wiring .setls ∷ m .wiring .contacts ∷ (setupBytes (m .setup)
-    ++ (m .ended ∷ (driveBytes (m .drive) ++ replicate 20 0)))))))
+recordOf m = joined (settingBytes m ∷ (m .ended ∷ []) ∷ driveBytes (m .drive) ∷ replicate 20 0 ∷ [])
 
 -- the motor with another position
 abbrev pub withPlace : Motor → ℕ → Motor
