@@ -1,5 +1,23 @@
-// One channel's motor, by value: what the 64 bytes of its record hold, topic by topic. A position, a limit and a target are
-// kept as places (crate digits): the number plus 2,147,483,648. What each rule of the bench says of a motor stands in specs/.
+// One channel's motor, by value: what the 64 bytes of its record hold, topic by topic, and the way from the bytes to the
+// motor and back. A position, a limit and a target are kept as places (crate digits): the number plus 2,147,483,648. What
+// stands where is said in specs/.
+
+use digits::places::place_of;
+use digits::places::word_of;
+use digits::words::byte_at;
+use digits::words::long_at;
+use digits::words::put_byte;
+use digits::words::put_long;
+use digits::words::put_short;
+use digits::words::short_at;
+ghost use mathlib.Core.Path.{_≡_};
+ghost use mathlib.Core.List.{[], _∷_};
+ghost use Prim.Native.Nat.{_+_, _≤_};
+ghost use lib.ListN.{length, replicate};
+ghost use Rattle.digits.specs.Bytes.{put};
+ghost use Rattle.record.specs.Record.{placeAt, limitsOf, speedsOf, wiringOf, setupOf, driveOf, motorOf};
+ghost use Rattle.record.specs.Record.{placeBytes, limitBytes, speedBytes, wiringBytes, setupBytes, settingBytes};
+ghost use Rattle.record.specs.Record.{driveBytes, recordOf};
 
 // The digital limits.
 pub struct Limits {
@@ -48,4 +66,187 @@ pub struct Motor {
     pub setup: Setup,
     pub ended: u8,
     pub drive: Drive,
+}
+
+// The place of the signed number in the four bytes from an offset on.
+fn place_at(b: &[u8], at: usize) -> u32
+    requires { ⌜ at + 4 ≤ length (now b) ⌝ }
+    ensures { λ r. ⌜ r ≡ placeAt (now (b .entry)) at ⌝ }
+{
+    place_of(long_at(b, at))
+}
+
+fn read_limits(b: &[u8]) -> Limits
+    requires { ⌜ length (now b) ≡ 64 ⌝ }
+    ensures { λ r. ⌜ r ≡ limitsOf (now (b .entry)) ⌝ }
+{
+    Limits {
+        cw: place_at(b, 4),
+        ccw: place_at(b, 8),
+    }
+}
+
+fn read_speeds(b: &[u8]) -> Speeds
+    requires { ⌜ length (now b) ≡ 64 ⌝ }
+    ensures { λ r. ⌜ r ≡ speedsOf (now (b .entry)) ⌝ }
+{
+    Speeds {
+        high: long_at(b, 12),
+        middle: long_at(b, 16),
+        low: long_at(b, 20),
+        selected: byte_at(b, 24),
+    }
+}
+
+fn read_wiring(b: &[u8]) -> Wiring
+    requires { ⌜ length (now b) ≡ 64 ⌝ }
+    ensures { λ r. ⌜ r ≡ wiringOf (now (b .entry)) ⌝ }
+{
+    Wiring {
+        setls: byte_at(b, 25),
+        contacts: byte_at(b, 26),
+    }
+}
+
+fn read_setup(b: &[u8]) -> Setup
+    requires { ⌜ length (now b) ≡ 64 ⌝ }
+    ensures { λ r. ⌜ r ≡ setupOf (now (b .entry)) ⌝ }
+{
+    Setup {
+        a: byte_at(b, 27),
+        b: byte_at(b, 28),
+        c: byte_at(b, 29),
+        d: byte_at(b, 30),
+    }
+}
+
+fn read_drive(b: &[u8]) -> Drive
+    requires { ⌜ length (now b) ≡ 64 ⌝ }
+    ensures { λ r. ⌜ r ≡ driveOf (now (b .entry)) ⌝ }
+{
+    Drive {
+        going: byte_at(b, 32),
+        kind: byte_at(b, 33),
+        fraction: short_at(b, 34),
+        speed: long_at(b, 36),
+        target: place_at(b, 40),
+    }
+}
+
+// The motor that a record holds.
+pub fn read_motor(b: &[u8]) -> Motor
+    requires { ⌜ length (now b) ≡ 64 ⌝ }
+    ensures { λ r. ⌜ r ≡ motorOf (now (b .entry)) ⌝ }
+{
+    let place = place_at(b, 0);
+    let limits = read_limits(b);
+    let speeds = read_speeds(b);
+    let wiring = read_wiring(b);
+    let setup = read_setup(b);
+    let ended = byte_at(b, 31);
+    let drive = read_drive(b);
+    Motor {
+        place,
+        limits,
+        speeds,
+        wiring,
+        setup,
+        ended,
+        drive,
+    }
+}
+
+// Writes the signed number of a place into the four bytes from an offset on.
+fn put_place(b: &mut [u8], at: usize, p: u32)
+    requires { ⌜ at + 4 ≤ length (now b) ⌝ }
+    ensures { λ r. ⌜ now (b .exit) ≡ put (now (b .entry)) at (placeBytes p) ⌝ }
+{
+    put_long(b, at, word_of(p))
+}
+
+fn put_limits(b: &mut [u8], l: Limits)
+    requires { ⌜ length (now b) ≡ 64 ⌝ }
+    ensures { λ r. ⌜ now (b .exit) ≡ put (now (b .entry)) 4 (limitBytes l) ⌝ }
+{
+    put_place(b, 4, l.cw);
+    put_place(b, 8, l.ccw);
+}
+
+fn put_speeds(b: &mut [u8], s: Speeds)
+    requires { ⌜ length (now b) ≡ 64 ⌝ }
+    ensures { λ r. ⌜ now (b .exit) ≡ put (now (b .entry)) 12 (speedBytes s) ⌝ }
+{
+    put_long(b, 12, s.high);
+    put_long(b, 16, s.middle);
+    put_long(b, 20, s.low);
+    put_byte(b, 24, s.selected);
+}
+
+fn put_wiring(b: &mut [u8], w: Wiring)
+    requires { ⌜ length (now b) ≡ 64 ⌝ }
+    ensures { λ r. ⌜ now (b .exit) ≡ put (now (b .entry)) 25 (wiringBytes w) ⌝ }
+{
+    b[25] = w.setls;
+    b[26] = w.contacts;
+}
+
+fn put_setup(b: &mut [u8], s: Setup)
+    requires { ⌜ length (now b) ≡ 64 ⌝ }
+    ensures { λ r. ⌜ now (b .exit) ≡ put (now (b .entry)) 27 (setupBytes s) ⌝ }
+{
+    b[27] = s.a;
+    b[28] = s.b;
+    b[29] = s.c;
+    b[30] = s.d;
+}
+
+// Writes the position and the settings, bytes 0 to 30.
+fn put_settings(b: &mut [u8], m: Motor)
+    requires { ⌜ length (now b) ≡ 64 ⌝ }
+    ensures { λ r. ⌜ now (b .exit) ≡ put (now (b .entry)) 0 (settingBytes m) ⌝ }
+{
+    let limits = m.limits;
+    let speeds = m.speeds;
+    let wiring = m.wiring;
+    let setup = m.setup;
+    put_place(b, 0, m.place);
+    put_limits(b, limits);
+    put_speeds(b, speeds);
+    put_wiring(b, wiring);
+    put_setup(b, setup);
+}
+
+fn put_drive(b: &mut [u8], d: Drive)
+    requires { ⌜ length (now b) ≡ 64 ⌝ }
+    ensures { λ r. ⌜ now (b .exit) ≡ put (now (b .entry)) 32 (driveBytes d) ⌝ }
+{
+    put_byte(b, 32, d.going);
+    put_byte(b, 33, d.kind);
+    put_short(b, 34, d.fraction);
+    put_long(b, 36, d.speed);
+    put_place(b, 40, d.target);
+}
+
+// Zeroes the bytes that no topic has, 44 to 63.
+fn put_zeros(b: &mut [u8])
+    requires { ⌜ length (now b) ≡ 64 ⌝ }
+    ensures { λ r. ⌜ now (b .exit) ≡ put (now (b .entry)) 44 (replicate 20 0) ⌝ }
+{
+    put_long(b, 44, 0);
+    put_long(b, 48, 0);
+    put_long(b, 52, 0);
+    put_long(b, 56, 0);
+    put_long(b, 60, 0);
+}
+
+// Writes a motor's record: every one of its 64 bytes.
+pub fn write_motor(b: &mut [u8], m: Motor)
+    requires { ⌜ length (now b) ≡ 64 ⌝ }
+    ensures { λ r. ⌜ now (b .exit) ≡ recordOf m ⌝ }
+{
+    let drive = m.drive;
+    put_settings(b, m);
+    put_byte(b, 31, m.ended);
+    put_drive(b, drive);
+    put_zeros(b);
 }

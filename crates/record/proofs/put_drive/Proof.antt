@@ -1,0 +1,45 @@
+use borrow.Author.Needs.{needs}
+use native.Mathlib.Omega.{arith}
+use mathlib.Core.List.{[], _∷_}
+use Rattle.digits.specs.Bytes.{joined}
+use Rattle.digits.specs.Words.{wordBytes}
+use Rattle.digits.proofs.BufferLaws.{lay-put}
+use Rattle.record.specs.Record.{placeBytes}
+use Rattle.record.proofs.put_drive.Statement.{statement}
+use Rattle.record.proofs.put_drive.Tie as tie
+
+put-byte-requires : tie.Need-put-byte-requires
+put-byte-requires c κs = search needs
+
+put-byte-requires-2 : tie.Need-put-byte-requires-2
+put-byte-requires-2 c κs = search needs
+
+put-short-requires : tie.Need-put-short-requires
+put-short-requires c κs = search needs
+
+put-long-requires : tie.Need-put-long-requires
+put-long-requires c κs = search needs
+
+put-place-requires : tie.Need-put-place-requires
+put-place-requires c κs = search needs
+
+same-length : tie.Need-same-length
+same-length c = search needs
+
+returns : tie.Need-returns
+unfolding joined wordBytes
+returns c =
+    let a = c .before .before .before .before .before .before .before .before .before .before .before .before .before .before .before .before .before .before .before .before .before .args in
+    cc (lay-put ((a .d .going ∷ []) ∷ (a .d .kind ∷ []) ∷ wordBytes 2 (a .d .fraction) ∷ wordBytes 4 (a .d .speed) ∷ placeBytes (a .d .target) ∷ []) (a .b .now) 32 (omega arith))
+
+pub put-drive-spec : {M : Type 1} → statement M
+put-drive-spec =
+    tie.close
+    (tie.spec
+    put-byte-requires
+    put-byte-requires-2
+    put-short-requires
+    put-long-requires
+    put-place-requires
+    same-length
+    returns)

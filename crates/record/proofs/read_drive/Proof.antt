@@ -1,0 +1,32 @@
+use borrow.Author.Needs.{needs}
+use Rattle.record.proofs.read_drive.Statement.{statement}
+use Rattle.record.proofs.read_drive.Tie as tie
+
+byte-at-requires : tie.Need-byte-at-requires
+byte-at-requires c κs = search needs
+
+byte-at-requires-2 : tie.Need-byte-at-requires-2
+byte-at-requires-2 c κs = search needs
+
+short-at-requires : tie.Need-short-at-requires
+short-at-requires c κs = search needs
+
+long-at-requires : tie.Need-long-at-requires
+long-at-requires c κs = search needs
+
+place-at-requires : tie.Need-place-at-requires
+place-at-requires c κs = search needs
+
+returns : tie.Need-returns
+returns c = cc
+
+pub read-drive-spec : {M : Type 1} → statement M
+read-drive-spec =
+    tie.close
+    (tie.spec
+    byte-at-requires
+    byte-at-requires-2
+    short-at-requires
+    long-at-requires
+    place-at-requires
+    returns)

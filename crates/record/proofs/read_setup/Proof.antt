@@ -1,0 +1,23 @@
+use borrow.Author.Needs.{needs}
+use Rattle.record.proofs.read_setup.Statement.{statement}
+use Rattle.record.proofs.read_setup.Tie as tie
+
+byte-at-requires : tie.Need-byte-at-requires
+byte-at-requires c κs = search needs
+
+byte-at-requires-2 : tie.Need-byte-at-requires-2
+byte-at-requires-2 c κs = search needs
+
+byte-at-requires-3 : tie.Need-byte-at-requires-3
+byte-at-requires-3 c κs = search needs
+
+byte-at-requires-4 : tie.Need-byte-at-requires-4
+byte-at-requires-4 c κs = search needs
+
+returns : tie.Need-returns
+returns c = cc
+
+pub read-setup-spec : {M : Type 1} → statement M
+read-setup-spec =
+    tie.close
+    (tie.spec byte-at-requires byte-at-requires-2 byte-at-requires-3 byte-at-requires-4 returns)

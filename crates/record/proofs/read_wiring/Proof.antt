@@ -1,0 +1,15 @@
+use borrow.Author.Needs.{needs}
+use Rattle.record.proofs.read_wiring.Statement.{statement}
+use Rattle.record.proofs.read_wiring.Tie as tie
+
+byte-at-requires : tie.Need-byte-at-requires
+byte-at-requires c κs = search needs
+
+byte-at-requires-2 : tie.Need-byte-at-requires-2
+byte-at-requires-2 c κs = search needs
+
+returns : tie.Need-returns
+returns c = cc
+
+pub read-wiring-spec : {M : Type 1} → statement M
+read-wiring-spec = tie.close (tie.spec byte-at-requires byte-at-requires-2 returns)

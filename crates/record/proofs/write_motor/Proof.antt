@@ -1,0 +1,43 @@
+use borrow.Author.Needs.{needs}
+use native.Mathlib.Omega.{arith}
+use mathlib.Core.List.{[], _∷_}
+use lib.ListN.{replicate}
+use Rattle.digits.specs.Bytes.{joined}
+use Rattle.digits.specs.Words.{wordBytes}
+use Rattle.digits.proofs.BufferLaws.{lay-put, put-whole}
+use Rattle.record.specs.Record.{settingBytes, driveBytes, recordOf}
+use Rattle.record.proofs.write_motor.Statement.{statement}
+use Rattle.record.proofs.write_motor.Tie as tie
+
+put-settings-requires : tie.Need-put-settings-requires
+put-settings-requires c κs = search needs
+
+put-byte-requires : tie.Need-put-byte-requires
+put-byte-requires c κs = search needs
+
+put-drive-requires : tie.Need-put-drive-requires
+put-drive-requires c κs = search needs
+
+put-zeros-requires : tie.Need-put-zeros-requires
+put-zeros-requires c κs = search needs
+
+same-length : tie.Need-same-length
+same-length c = search needs
+
+returns : tie.Need-returns
+unfolding joined wordBytes settingBytes recordOf
+returns c =
+    let a = c .before .before .before .before .before .before .before .before .before .before .before .before .before .before .before .before .before .before .args in
+    cc
+    (lay-put (settingBytes (a .m) ∷ (a .m .ended ∷ []) ∷ driveBytes (a .m .drive) ∷ replicate 20 0 ∷ []) (a .b .now) 0 (omega arith), put-whole (a .b .now) (recordOf (a .m)) (omega arith))
+
+pub write-motor-spec : {M : Type 1} → statement M
+write-motor-spec =
+    tie.close
+    (tie.spec
+    put-settings-requires
+    put-byte-requires
+    put-drive-requires
+    put-zeros-requires
+    same-length
+    returns)
