@@ -1,12 +1,14 @@
 -- Laws of what is read from a buffer and written to it. Assumes nothing.
 use mathlib.Core.Path.{_≡_, refl, ap, sym, _∙_}
 use mathlib.Core.List.{List, [], _∷_, _++_, append-assoc, append-nil}
-use mathlib.Core.Bool.{_&&_, and-assoc}
+use mathlib.Core.Bool.{true, _&&_, and-assoc, and-eq-true-iff}
 use Prim.Native.Nat.{ℕ, zero, suc, _+_, _*_, _^_, _≤_, _<_}
 use native.Mathlib.Nat.{add-assoc, zero-add, add-zero}
 use native.Mathlib.Omega.{arith}
-use lib.ListN.{length, take, drop, getD, length-append, length-take, length-drop, take-append-drop}
-use lib.Seq.{drop-cons, drop-drop, drop-length, take-add, take-at, take-length, drop-at, length-take-le, sets, sets-eq}
+use lib.ListN.{length, take, drop, getD, length-append, length-take, length-drop, take-append-drop, replicate}
+use lib.Dec.{eqb}
+use borrow.Author.Tests.{eqb-true}
+use lib.Seq.{getD-drop, drop-cons, drop-drop, drop-length, take-add, take-at, take-length, drop-at, length-take-le, sets, sets-eq}
 use Rattle.digits.specs.Bytes.{part, put, joined, allZero}
 use Rattle.digits.specs.Words.{word}
 
@@ -88,3 +90,23 @@ pub zero-append : (a b : List ℕ) → allZero (a ++ b) ≡ (allZero a && allZer
 unfolding allZero
 zero-append [] b = refl
 zero-append (x ∷ a) b = rw (zero-append a b, and-assoc)
+
+-- The bytes of a part are bytes of the buffer.
+front-bytes : (n : ℕ) (s : List ℕ) → ((k : ℕ) → getD s k 0 < 256) → (k : ℕ) → getD (take n s) k 0 < 256
+front-bytes zero s h k = omega arith
+front-bytes (suc n) [] h k = h k
+front-bytes (suc n) (b ∷ s) h zero = h zero
+front-bytes (suc n) (b ∷ s) h (suc k) = front-bytes n s (λ j. h (suc j)) k
+
+pub part-bytes : (s : List ℕ) (at n : ℕ) → ((k : ℕ) → getD s k 0 < 256) → (k : ℕ) → getD (part s at n) k 0 < 256
+unfolding part
+part-bytes s at n h k = front-bytes n (drop at s) (λ j. rw (getD-drop at s j 0) (h (at + j))) k
+
+-- Bytes that are all zero are that many zeros.
+pub zero-bytes : (s : List ℕ) → allZero s ≡ true → s ≡ replicate (length s) 0
+unfolding allZero
+zero-bytes [] e = refl
+zero-bytes (b ∷ s) e =
+    let both = and-eq-true-iff (eqb b 0) (allZero s) .0 e in
+    let p : b ≡ 0 = eqb-true b 0 (both .0) in
+    rw (p, ← zero-bytes s (both .1))

@@ -82,3 +82,8 @@ pulses-signed-cw n h = rw (word-bytes 4 (countOf cw n) (count-fits cw n h)) (cou
 
 pub pulses-signed-ccw : (n : ℕ) → n < 2147483648 → toZ w32 (word (wordBytes 4 (countOf ccw n))) ≡ negℤ (pos n)
 pulses-signed-ccw n h = rw (word-bytes 4 (countOf ccw n) (count-fits ccw n h)) (count-ccw n h)
+
+-- A place is read back from the four bytes that it is written in, and the four bytes of a signed number are those that its
+-- place is written in.
+pub place-bytes : (p : ℕ) → p < 4294967296 → placeOf (word (wordBytes 4 (wordOf p))) ≡ p
+place-bytes p h = rw (word-bytes 4 (wordOf p) (unfold wordOf in (omega arith))) (place-word p h)

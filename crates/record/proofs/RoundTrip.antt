@@ -1,0 +1,105 @@
+-- A motor that is written and read back is the same motor, and bytes that are read and written back are the same bytes.
+-- Assumes nothing.
+use mathlib.Core.Path.{_≡_, refl, sym, ap, _∙_}
+use mathlib.Core.List.{List, [], _∷_, _++_}
+use mathlib.Core.Bool.{true}
+use Prim.Native.Nat.{ℕ, zero, suc, _+_, _≤_, _<_}
+use native.Mathlib.Omega.{arith}
+use lib.ListN.{length, getD, replicate}
+use lib.Seq.{getD-take, getD-drop}
+use Rattle.digits.specs.Bytes.{part, joined, allZero}
+use Rattle.digits.specs.Words.{word, wordBytes}
+use Rattle.digits.specs.Places.{placeOf, wordOf}
+use Rattle.digits.proofs.BufferLaws.{part-length, part-add, part-bytes, part-one, zero-bytes, part-whole, cut-joined}
+use Rattle.digits.proofs.WordLaws.{word-bytes, bytes-word, word-below}
+use Rattle.digits.proofs.Signed.{place-bytes, word-place}
+use Rattle.record.specs.declared.Motor.{Motor}
+use Rattle.record.specs.Record.{byteAt, shortAt, longAt, placeAt, limitsOf, speedsOf, wiringOf, setupOf, driveOf, motorOf, placeBytes, limitBytes, speedBytes, wiringBytes, setupBytes, settingBytes, driveBytes, recordOf, standing}
+
+-- every number of a motor fits the bytes that it is written in, as the types of the code have it
+pub record FitsRecord (m : Motor) : Type 0 where
+  pub place : m .place < 4294967296
+  pub cw : m .limits .cw < 4294967296
+  pub ccw : m .limits .ccw < 4294967296
+  pub high : m .speeds .high < 4294967296
+  pub middle : m .speeds .middle < 4294967296
+  pub low : m .speeds .low < 4294967296
+  pub fraction : m .drive .fraction < 65536
+  pub speed : m .drive .speed < 4294967296
+  pub target : m .drive .target < 4294967296
+
+-- A byte is the number of itself alone.
+byte-word : (n : ℕ) → word (n ∷ []) ≡ n
+unfolding word
+byte-word n = omega arith
+
+-- Written and read back is the same motor.
+pub written-read : (m : Motor) → FitsRecord m → motorOf (recordOf m) ≡ m
+unfolding motorOf recordOf settingBytes joined part wordBytes
+written-read m f =
+    rw (place-bytes (m .place) (f .place), place-bytes (m .limits .cw) (f .cw), place-bytes (m .limits .ccw) (f .ccw), place-bytes (m .drive .target) (f .target))
+    (rw (word-bytes 4 (m .speeds .high) (f .high), word-bytes 4 (m .speeds .middle) (f .middle), word-bytes 4 (m .speeds .low) (f .low), word-bytes 4 (m .drive .speed) (f .speed), word-bytes 2 (m .drive .fraction) (f .fraction))
+    (simp byte-word))
+
+-- A record has 64 bytes.
+pub record-length : (m : Motor) → length (recordOf m) ≡ 64
+unfolding recordOf settingBytes joined wordBytes
+record-length m = refl
+
+-- Bytes 32 to 43 are the drive's, and where there is none they are zero.
+pub drive-part : (m : Motor) → part (recordOf m) 32 12 ≡ driveBytes (m .drive)
+unfolding recordOf settingBytes joined part wordBytes
+drive-part m = refl
+
+pub standing-zero : (m : Motor) → m .drive ≡ standing → part (recordOf m) 32 12 ≡ replicate 12 0
+unfolding joined wordBytes wordOf
+standing-zero m e = rw (drive-part m, e)
+
+-- Bytes of a record, each below 256, as the bytes of a buffer are.
+module _ (b : List ℕ) (whole : length b ≡ 64) (bytes : (k : ℕ) → getD b k 0 < 256) where
+  -- A field's bytes are those that its number is written in.
+  word-back : (at n : ℕ) → at + n ≤ 64 → wordBytes n (word (part b at n)) ≡ part b at n
+  word-back at n h = bytes-word n (part b at n) (part-length b at n (omega arith)) (part-bytes b at n bytes)
+
+  place-back : (at : ℕ) → at + 4 ≤ 64 → placeBytes (placeAt b at) ≡ part b at 4
+  place-back at h =
+      rw (word-place (longAt b at) (word-below 4 (part b at 4) (part-length b at 4 (omega arith)) (part-bytes b at 4 bytes))) (word-back at 4 h)
+
+  byte-back : (at : ℕ) → at < 64 → byteAt b at ∷ [] ≡ part b at 1
+  byte-back at h = rw (part-one b at (omega arith), byte-word (getD b at 0))
+
+  cons-back : (at n : ℕ) → at < 64 → byteAt b at ∷ part b (at + 1) n ≡ part b at (1 + n)
+  cons-back at n h = ap (λ (l : List ℕ). l ++ part b (at + 1) n) (byte-back at h) ∙ sym (part-add b at 1 n)
+
+  limits-back : limitBytes (limitsOf b) ≡ part b 4 8
+  limits-back = rw (place-back 4 (omega arith), place-back 8 (omega arith)) (cut-joined (4 ∷ 4 ∷ []) b 4)
+
+  speeds-back : speedBytes (speedsOf b) ≡ part b 12 13
+  speeds-back =
+      rw (word-back 12 4 (omega arith), word-back 16 4 (omega arith), word-back 20 4 (omega arith), byte-back 24 (omega arith))
+      (cut-joined (4 ∷ 4 ∷ 4 ∷ 1 ∷ []) b 12)
+
+  wiring-back : wiringBytes (wiringOf b) ≡ part b 25 2
+  wiring-back = rw (byte-back 26 (omega arith)) (cons-back 25 1 (omega arith))
+
+  setup-back : setupBytes (setupOf b) ≡ part b 27 4
+  setup-back = rw (byte-back 30 (omega arith), cons-back 29 1 (omega arith), cons-back 28 2 (omega arith)) (cons-back 27 3 (omega arith))
+
+  settings-back : settingBytes (motorOf b) ≡ part b 0 31
+  unfolding settingBytes motorOf
+  settings-back = rw (place-back 0 (omega arith), limits-back, speeds-back, wiring-back, setup-back) (cut-joined (4 ∷ 8 ∷ 13 ∷ 2 ∷ 4 ∷ []) b 0)
+
+  drive-back : driveBytes (driveOf b) ≡ part b 32 12
+  unfolding joined
+  drive-back =
+      rw (word-back 34 2 (omega arith), word-back 36 4 (omega arith), place-back 40 (omega arith), cut-joined (2 ∷ 4 ∷ 4 ∷ []) b 34, cons-back 33 10 (omega arith))
+      (cons-back 32 11 (omega arith))
+
+  zeros-back : allZero (part b 44 20) ≡ true → replicate 20 0 ≡ part b 44 20
+  zeros-back z = rw (zero-bytes (part b 44 20) z, part-length b 44 20 (omega arith))
+
+  -- Read and written back is the same bytes, where those that no topic has are zero.
+  pub read-written : allZero (part b 44 20) ≡ true → recordOf (motorOf b) ≡ b
+  unfolding recordOf motorOf
+  read-written z =
+      rw (settings-back, byte-back 31 (omega arith), drive-back, zeros-back z) (cut-joined (31 ∷ 1 ∷ 12 ∷ 20 ∷ []) b 0 ∙ rw (← whole) (part-whole b))
