@@ -10,7 +10,7 @@ use lib.Dec.{eqb}
 use borrow.Author.Tests.{eqb-true, eqb-false, eq-eqb, ne-eqb}
 use Rattle.digits.specs.Bytes.{part, allZero}
 use Rattle.digits.specs.Words.{word, wordBytes}
-use Rattle.digits.proofs.BufferLaws.{part-add, part-length}
+use Rattle.digits.proofs.BufferLaws.{part-add, part-length, zero-append}
 
 -- A number that fits w bytes is read back from the w bytes that it is written in.
 pub word-bytes : (w n : ℕ) → n < 256 ^ w → word (wordBytes w n) ≡ n
@@ -74,3 +74,7 @@ word-zero (b ∷ s) = rw (← word-zero s) (sum-zero b (word s))
         go true e false f = let q : n ≡ 0 → ⊥ = eqb-false n 0 f in ne-eqb (b + 256 * n) 0 (λ z. q (omega arith))
         go false e true f = let q : b ≡ 0 → ⊥ = eqb-false b 0 e in ne-eqb (b + 256 * n) 0 (λ z. q (omega arith))
         go false e false f = let q : b ≡ 0 → ⊥ = eqb-false b 0 e in ne-eqb (b + 256 * n) 0 (λ z. q (omega arith))
+
+-- A part is all zero where its first word and the part after it are.
+pub zero-part : (s : List ℕ) (at m n : ℕ) → allZero (part s at (m + n)) ≡ (eqb (word (part s at m)) 0 && allZero (part s (at + m) n))
+zero-part s at m n = rw (part-add s at m n, zero-append (part s at m) (part s (at + m) n), word-zero (part s at m))

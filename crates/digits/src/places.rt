@@ -3,7 +3,7 @@
 use crate::choose;
 use crate::less;
 ghost use mathlib.Core.Path.{_≡_};
-ghost use Rattle.digits.specs.Places.{placeOf, wordOf, moved, ahead};
+ghost use Rattle.digits.specs.Places.{isPosition, placeOf, wordOf, moved, ahead};
 
 // The directions of a drive.
 pub const CW: u8 = 1;
@@ -16,6 +16,13 @@ pub const ORIGIN: u32 = 2147483648;
 pub const LOWEST: u32 = 1;
 
 pub const HIGHEST: u32 = 4294967295;
+
+// Whether a number is the place of a position.
+pub fn is_position(p: u32) -> bool
+    ensures { λ r. ⌜ r ≡ isPosition p ⌝ }
+{
+    (LOWEST <= p) & (p <= HIGHEST)
+}
 
 // The place of the signed number in a word of four bytes.
 pub fn place_of(w: u32) -> u32

@@ -1,0 +1,14 @@
+use borrow.Author.Needs.{needs}
+use Rattle.motor.specs.Sound.{driveInRange}
+use Rattle.motor.proofs.drive_in_range.Statement.{statement}
+use Rattle.motor.proofs.drive_in_range.Tie as tie
+
+is-position-requires : tie.Need-is-position-requires
+is-position-requires c κs = search needs
+
+returns : tie.Need-returns
+unfolding driveInRange
+returns c = cc
+
+pub drive-in-range-spec : {M : Type 1} → statement M
+drive-in-range-spec = tie.close (tie.spec is-position-requires returns)

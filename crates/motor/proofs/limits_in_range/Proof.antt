@@ -1,0 +1,17 @@
+use borrow.Author.Needs.{needs}
+use Rattle.motor.specs.Sound.{limitsInRange}
+use Rattle.motor.proofs.limits_in_range.Statement.{statement}
+use Rattle.motor.proofs.limits_in_range.Tie as tie
+
+is-position-requires : tie.Need-is-position-requires
+is-position-requires c κs = search needs
+
+is-position-requires-2 : tie.Need-is-position-requires-2
+is-position-requires-2 c κs = search needs
+
+returns : tie.Need-returns
+unfolding limitsInRange
+returns c = cc
+
+pub limits-in-range-spec : {M : Type 1} → statement M
+limits-in-range-spec = tie.close (tie.spec is-position-requires is-position-requires-2 returns)

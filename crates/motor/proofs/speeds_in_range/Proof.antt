@@ -1,0 +1,21 @@
+use borrow.Author.Needs.{needs}
+use Rattle.motor.specs.Sound.{speedsInRange}
+use Rattle.motor.proofs.speeds_in_range.Statement.{statement}
+use Rattle.motor.proofs.speeds_in_range.Tie as tie
+
+is-speed-requires : tie.Need-is-speed-requires
+is-speed-requires c κs = search needs
+
+is-speed-requires-2 : tie.Need-is-speed-requires-2
+is-speed-requires-2 c κs = search needs
+
+is-speed-requires-3 : tie.Need-is-speed-requires-3
+is-speed-requires-3 c κs = search needs
+
+returns : tie.Need-returns
+unfolding speedsInRange
+returns c = cc
+
+pub speeds-in-range-spec : {M : Type 1} → statement M
+speeds-in-range-spec =
+    tie.close (tie.spec is-speed-requires is-speed-requires-2 is-speed-requires-3 returns)

@@ -1,0 +1,14 @@
+use borrow.Author.Needs.{needs}
+use Rattle.motor.specs.Sound.{wiringInRange}
+use Rattle.motor.proofs.wiring_in_range.Statement.{statement}
+use Rattle.motor.proofs.wiring_in_range.Tie as tie
+
+is-set-requires : tie.Need-is-set-requires
+is-set-requires c κs = search needs
+
+returns : tie.Need-returns
+unfolding wiringInRange
+returns c = cc
+
+pub wiring-in-range-spec : {M : Type 1} → statement M
+wiring-in-range-spec = tie.close (tie.spec is-set-requires returns)
