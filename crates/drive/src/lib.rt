@@ -1,6 +1,31 @@
-// What starts a drive, what changes it and what ends it, and one tick of it. What each rule of the bench says stands in specs/.
+// What starts a drive, what changes it and what ends it, and one tick of it. Every function takes a motor and gives the
+// motor after, or says how it is judged; none of them asks that the motor is sound. What each rule of the bench says stands
+// in specs/.
 
+use digits::choose;
+use digits::places::CCW;
+use digits::places::CW;
+use digits::places::ORIGIN;
+use digits::places::place_ahead;
+use digits::places::pulses_ahead;
+use digits::smaller;
+use motor::is_blocked;
+use motor::is_driving;
+use motor::room_of;
+use record::Drive;
 use record::Motor;
+use record::Speeds;
+use record::Wiring;
+ghost use mathlib.Core.Path.{_≡_};
+ghost use Prim.Native.Nat.{_+_, _<_};
+ghost use Rattle.record.specs.Record.{withPlace, withWiring, withDrive};
+ghost use Rattle.drive.specs.Drives.{speedNumbered, courseTo, towards, hindrance, judgeStart, launched, started};
+ghost use Rattle.drive.specs.Drives.{endedWith, stopped, judgeSpeedChange, speedChanged, contacted, switchRead};
+ghost use Rattle.drive.specs.Ticks.{tickSpeed, due, rest, distanceLeft, given, reached, usedUp, advanced};
+ghost use Rattle.drive.specs.Ticks.{goesOn, drivenOn, tickMotor};
+
+// The end flag of a drive that a switch or the end of its room ended.
+const LSEND: u8 = 0x20;
 
 // Where a start wants a motor to go: nowhere, since it is there; beyond the positions' range; to a place; or on in a
 // direction until something ends it.
@@ -30,4 +55,278 @@ pub enum Verdict {
 pub struct Ticked {
     pub motor: Motor,
     pub pulses: u32,
+}
+
+// The motor at another place.
+fn with_place(m: Motor, p: u32) -> Motor
+    ensures { λ r. ⌜ r ≡ withPlace m p ⌝ }
+{
+    let mut n = m;
+    n.place = p;
+    n
+}
+
+// The motor with other end flags and another drive.
+fn with_drive(m: Motor, ended: u8, d: Drive) -> Motor
+    ensures { λ r. ⌜ r ≡ withDrive m ended d ⌝ }
+{
+    let mut n = m;
+    n.ended = ended;
+    n.drive = d;
+    n
+}
+
+// One of LSPD, MSPD and HSPD, by its number.
+fn speed_numbered(k: u8, s: Speeds) -> u32
+    ensures { λ r. ⌜ r ≡ speedNumbered k s ⌝ }
+{
+    choose(k == 0, s.low, choose(k == 1, s.middle, s.high))
+}
+
+// Where n pulses from the place p in a direction lead a motor: nowhere if it stands there, or beyond the range, or there.
+pub fn course_to(m: Motor, going: u8, p: u32, n: u32) -> Course
+    ensures { λ r. ⌜ r ≡ courseTo m going p n ⌝ }
+{
+    let to = place_ahead(going, p, n);
+    if to == m.place as u64 {
+        Course::Stay
+    } else if to < 1 {
+        Course::Beyond
+    } else if to <= 4294967295 {
+        Course::To(to as u32)
+    } else {
+        Course::Beyond
+    }
+}
+
+// The direction in which a place lies from here.
+fn direction_to(m: Motor, p: u32) -> u8
+    ensures { λ r. ⌜ r ≡ towards m p ⌝ }
+{
+    if m.place < p { CW } else { CCW }
+}
+
+// What keeps a stopped motor from leaving in a direction, or that nothing does.
+fn hindrance_to(m: Motor, going: u8) -> Verdict
+    ensures { λ r. ⌜ r ≡ hindrance m going ⌝ }
+{
+    if m.setup.a == 0 {
+        return Verdict::Disabled;
+    }
+    if is_blocked(going, m) {
+        return Verdict::SwitchAhead;
+    }
+    if room_of(going, m) == 0 {
+        return Verdict::NoRoom;
+    }
+    Verdict::Done
+}
+
+// How a start of a stopped motor is judged.
+pub fn judge_start(m: Motor, c: Course) -> Verdict
+    ensures { λ r. ⌜ r ≡ judgeStart m c ⌝ }
+{
+    match c {
+        Course::Stay => Verdict::Done,
+        Course::Beyond => Verdict::OutOfRange,
+        Course::To(p) => hindrance_to(m, direction_to(m, p)),
+        Course::Along(going) => hindrance_to(m, going),
+    }
+}
+
+// The motor as it leaves: at the selected speed, with nothing carried and the end flags clear.
+fn launch(m: Motor, going: u8, kind: u8, target: u32) -> Motor
+    ensures { λ r. ⌜ r ≡ launched m going kind target ⌝ }
+{
+    let speeds = m.speeds;
+    let speed = speed_numbered(speeds.selected, speeds);
+    let d = Drive {
+        going,
+        kind,
+        fraction: 0,
+        speed,
+        target,
+    };
+    with_drive(m, 0, d)
+}
+
+// The motor after an accepted start: a scan either way, to a target, or nowhere.
+pub fn start(m: Motor, c: Course) -> Motor
+    ensures { λ r. ⌜ r ≡ started m c ⌝ }
+{
+    match c {
+        Course::Stay => m,
+        Course::Beyond => m,
+        Course::To(p) => launch(m, direction_to(m, p), 1, p),
+        Course::Along(going) => launch(m, going, 0, ORIGIN),
+    }
+}
+
+// The motor with its drive ended: the flags say how, and nothing of the drive is left.
+fn end_drive(m: Motor, flags: u8) -> Motor
+    ensures { λ r. ⌜ r ≡ endedWith flags m ⌝ }
+{
+    let none = Drive {
+        going: 0,
+        kind: 0,
+        fraction: 0,
+        speed: 0,
+        target: ORIGIN,
+    };
+    with_drive(m, flags, none)
+}
+
+// The motor after a stop with its flag; a stopped motor stays as it is.
+pub fn stop(m: Motor, flags: u8) -> Motor
+    ensures { λ r. ⌜ r ≡ stopped flags m ⌝ }
+{
+    if is_driving(m) {
+        end_drive(m, flags)
+    } else {
+        m
+    }
+}
+
+// How a change of the speed in force is judged.
+pub fn judge_speed_change(m: Motor) -> Verdict
+    ensures { λ r. ⌜ r ≡ judgeSpeedChange m ⌝ }
+{
+    if is_driving(m) {
+        Verdict::Done
+    } else {
+        Verdict::NotDriving
+    }
+}
+
+// The motor with another speed in force; what is carried stays.
+pub fn change_speed(m: Motor, v: u32) -> Motor
+    ensures { λ r. ⌜ r ≡ speedChanged m v ⌝ }
+{
+    let mut d = m.drive;
+    d.speed = v;
+    with_drive(m, m.ended, d)
+}
+
+// The motor with other contacts.
+fn with_contacts(m: Motor, contacts: u8) -> Motor
+    ensures { λ r. ⌜ r ≡ contacted m contacts ⌝ }
+{
+    let mut n = m;
+    let mut w = m.wiring;
+    w.contacts = contacts;
+    n.wiring = w;
+    n
+}
+
+// The motor after a switch reading: a switch ahead that is now active and enabled ends the drive.
+pub fn read_switches(m: Motor, contacts: u8) -> Motor
+    ensures { λ r. ⌜ r ≡ switchRead m contacts ⌝ }
+{
+    let n = with_contacts(m, contacts);
+    let hit = is_driving(m) & is_blocked(m.drive.going, n);
+    if hit { end_drive(n, LSEND) } else { n }
+}
+
+// The speed that a tick goes at: none if the motor stands stopped.
+fn tick_speed(m: Motor) -> u32
+    ensures { λ r. ⌜ r ≡ tickSpeed m ⌝ }
+{
+    choose(is_driving(m), m.drive.speed, 0)
+}
+
+// The fraction and the speed together, in thousandths of a pulse.
+fn thousandths(m: Motor) -> u64
+    ensures { λ r. ⌜ (r ≡ m .drive .fraction + tickSpeed m) × (r < 4295032832) ⌝ }
+{
+    (m.drive.fraction as u64) + (tick_speed(m) as u64)
+}
+
+// The whole pulses that are due.
+fn due_pulses(m: Motor) -> u32
+    ensures { λ r. ⌜ r ≡ due m ⌝ }
+{
+    (thousandths(m) / 1000) as u32
+}
+
+// What is carried to the next tick.
+fn new_fraction(m: Motor) -> u16
+    ensures { λ r. ⌜ r ≡ rest m ⌝ }
+{
+    (thousandths(m) % 1000) as u16
+}
+
+// How far the target lies ahead.
+fn distance_left(m: Motor) -> u32
+    ensures { λ r. ⌜ r ≡ distanceLeft m ⌝ }
+{
+    pulses_ahead(m.drive.going, m.place, m.drive.target)
+}
+
+// The pulses that a tick gives a driving motor: what is due, as far as room and the target allow.
+fn given_pulses(m: Motor) -> u32
+    ensures { λ r. ⌜ r ≡ given m ⌝ }
+{
+    let room = room_of(m.drive.going, m);
+    let most = choose(m.drive.kind == 1, smaller(room, distance_left(m)), room);
+    smaller(due_pulses(m), most)
+}
+
+// Whether this tick reaches the target.
+fn is_reached(m: Motor) -> bool
+    ensures { λ r. ⌜ r ≡ reached m ⌝ }
+{
+    (m.drive.kind == 1) & (given_pulses(m) == distance_left(m))
+}
+
+// Whether this tick uses up the room.
+fn is_used_up(m: Motor) -> bool
+    ensures { λ r. ⌜ r ≡ usedUp m ⌝ }
+{
+    given_pulses(m) == room_of(m.drive.going, m)
+}
+
+// The motor moved by the pulses of this tick.
+fn advance(m: Motor) -> Motor
+    ensures { λ r. ⌜ r ≡ advanced m ⌝ }
+{
+    let to = place_ahead(m.drive.going, m.place, given_pulses(m));
+    with_place(m, to as u32)
+}
+
+// The motor moved, with its drive going on and the new fraction carried.
+fn go_on(m: Motor) -> Motor
+    ensures { λ r. ⌜ r ≡ goesOn m ⌝ }
+{
+    let mut d = m.drive;
+    d.fraction = new_fraction(m);
+    with_drive(advance(m), m.ended, d)
+}
+
+// A driving motor after this tick.
+fn drive_on(m: Motor) -> Motor
+    ensures { λ r. ⌜ r ≡ drivenOn m ⌝ }
+{
+    if is_reached(m) {
+        return end_drive(advance(m), 0);
+    }
+    if is_used_up(m) {
+        return end_drive(advance(m), LSEND);
+    }
+    go_on(m)
+}
+
+// One tick of one motor: the motor after it and the pulses that it was given; a stopped motor stays and gets none.
+pub fn tick(m: Motor) -> Ticked
+    ensures { λ r. ⌜ r ≡ tickMotor m ⌝ }
+{
+    if is_driving(m) {
+        let pulses = given_pulses(m);
+        let motor = drive_on(m);
+        Ticked { motor, pulses }
+    } else {
+        Ticked {
+            motor: m,
+            pulses: 0,
+        }
+    }
 }

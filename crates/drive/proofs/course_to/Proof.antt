@@ -1,0 +1,35 @@
+use borrow.Author.Tests.{eq-eqb, ne-eqb, le-leb, lt-leb}
+use Rattle.drive.specs.Drives.{courseTo}
+use borrow.Author.Needs.{needs}
+use Rattle.drive.proofs.course_to.Statement.{statement}
+use Rattle.drive.proofs.course_to.Tie as tie
+
+place-ahead-requires : tie.Need-place-ahead-requires
+place-ahead-requires c κs = search needs
+
+cast-if1 : tie.Need-cast-if1
+cast-if1 c = search needs
+
+cast-t13 : tie.Need-cast-t13
+cast-t13 c = search needs
+
+returns : tie.Need-returns
+unfolding courseTo
+returns c = rw (← c .before .before .place-ahead .ensures, eq-eqb _ _ (c .if1 .taken))
+
+returns-2 : tie.Need-returns-2
+unfolding courseTo
+returns-2 c = rw (← c .before .before .before .place-ahead .ensures, ne-eqb _ _ (c .before .if1 .left), lt-leb _ _ (c .if2 .taken))
+
+returns-3 : tie.Need-returns-3
+unfolding courseTo
+returns-3 c = rw (← c .before .before .before .before .place-ahead .ensures, ne-eqb _ _ (c .before .before .if1 .left), le-leb _ _ (c .before .if2 .left), le-leb _ _ (c .if3 .taken))
+
+returns-4 : tie.Need-returns-4
+unfolding courseTo
+returns-4 c = rw (← c .before .before .before .before .place-ahead .ensures, ne-eqb _ _ (c .before .before .if1 .left), le-leb _ _ (c .before .if2 .left), lt-leb _ _ (c .if3 .left))
+
+pub course-to-spec : {M : Type 1} → statement M
+course-to-spec =
+    tie.close
+    (tie.spec place-ahead-requires cast-if1 cast-t13 returns returns-2 returns-3 returns-4)

@@ -1,0 +1,31 @@
+use borrow.Author.Tests.{eq-eqb, ne-eqb}
+use Rattle.drive.specs.Drives.{hindrance}
+use borrow.Author.Needs.{needs}
+use Rattle.drive.proofs.hindrance_to.Statement.{statement}
+use Rattle.drive.proofs.hindrance_to.Tie as tie
+
+returns : tie.Need-returns
+unfolding hindrance
+returns c = rw (eq-eqb _ _ (c .if1 .taken))
+
+is-blocked-requires : tie.Need-is-blocked-requires
+is-blocked-requires c κs = search needs
+
+returns-2 : tie.Need-returns-2
+unfolding hindrance
+returns-2 c = rw (ne-eqb _ _ (c .before .before .if1 .left), ← c .before .is-blocked .ensures, c .if2 .taken)
+
+room-of-requires : tie.Need-room-of-requires
+room-of-requires c κs = search needs
+
+returns-3 : tie.Need-returns-3
+unfolding hindrance
+returns-3 c = rw (ne-eqb _ _ (c .before .before .before .before .if1 .left), ← c .before .before .before .is-blocked .ensures, c .before .before .if2 .left, ← c .before .room-of .ensures, eq-eqb _ _ (c .if3 .taken))
+
+returns-4 : tie.Need-returns-4
+unfolding hindrance
+returns-4 c = rw (ne-eqb _ _ (c .before .before .before .before .if1 .left), ← c .before .before .before .is-blocked .ensures, c .before .before .if2 .left, ← c .before .room-of .ensures, ne-eqb _ _ (c .if3 .left))
+
+pub hindrance-to-spec : {M : Type 1} → statement M
+hindrance-to-spec =
+    tie.close (tie.spec returns is-blocked-requires returns-2 room-of-requires returns-3 returns-4)

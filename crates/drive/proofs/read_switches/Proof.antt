@@ -1,0 +1,41 @@
+use Rattle.drive.specs.Drives.{switchRead}
+use borrow.Author.Needs.{needs}
+use Rattle.drive.proofs.read_switches.Statement.{statement}
+use Rattle.drive.proofs.read_switches.Tie as tie
+
+with-contacts-requires : tie.Need-with-contacts-requires
+with-contacts-requires c κs = search needs
+
+is-driving-requires : tie.Need-is-driving-requires
+is-driving-requires c κs = search needs
+
+is-blocked-requires : tie.Need-is-blocked-requires
+is-blocked-requires c κs = search needs
+
+end-drive-requires : tie.Need-end-drive-requires
+end-drive-requires c κs = search needs
+
+returns : tie.Need-returns
+unfolding switchRead
+returns c =
+    let contacts = c .before .before .before .before .with-contacts .ensures in
+    let hit = rw (c .before .before .before .is-driving .ensures, c .before .before .is-blocked .ensures, contacts) at (c .before .if1 .taken) in
+    rw (hit, c .end-drive .ensures, contacts)
+
+returns-2 : tie.Need-returns-2
+unfolding switchRead
+returns-2 c =
+    let contacts = c .before .before .before .with-contacts .ensures in
+    let free = rw (c .before .before .is-driving .ensures, c .before .is-blocked .ensures, contacts) at (c .if1 .left) in
+    rw (free, contacts)
+
+pub read-switches-spec : {M : Type 1} → statement M
+read-switches-spec =
+    tie.close
+    (tie.spec
+    with-contacts-requires
+    is-driving-requires
+    is-blocked-requires
+    end-drive-requires
+    returns
+    returns-2)

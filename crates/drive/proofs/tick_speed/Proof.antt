@@ -1,0 +1,17 @@
+use Rattle.drive.specs.Ticks.{tickSpeed}
+use borrow.Author.Needs.{needs}
+use Rattle.drive.proofs.tick_speed.Statement.{statement}
+use Rattle.drive.proofs.tick_speed.Tie as tie
+
+is-driving-requires : tie.Need-is-driving-requires
+is-driving-requires c κs = search needs
+
+choose-requires : tie.Need-choose-requires
+choose-requires c κs = search needs
+
+returns : tie.Need-returns
+unfolding tickSpeed
+returns c = cc
+
+pub tick-speed-spec : {M : Type 1} → statement M
+tick-speed-spec = tie.close (tie.spec is-driving-requires choose-requires returns)
