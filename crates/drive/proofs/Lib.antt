@@ -1,2 +1,4 @@
 pub mod Laws
+pub mod TickLaws
+pub mod KeptSound
 pub mod Cases

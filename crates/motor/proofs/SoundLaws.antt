@@ -11,14 +11,14 @@ use Rattle.record.specs.declared.Drive.{Drive}
 use Rattle.record.specs.declared.Motor.{Motor}
 use Rattle.record.specs.Record.{standing}
 use Rattle.motor.specs.Switches.{blocked, room}
-use Rattle.motor.specs.Sound.{limitsInRange, speedsInRange, wiringInRange, setupInRange, endFlagsInRange, driveInRange, inRange, atRest, aimRight, underWay, driving, soundMotor}
+use Rattle.motor.specs.Sound.{isSpeed, limitsInRange, speedsInRange, wiringInRange, setupInRange, endFlagsInRange, driveInRange, inRange, atRest, aimRight, underWay, driving, soundMotor}
 
--- a conjunction that holds, in its two parts
-and-l : (a b : Bool) → (a && b) ≡ true → a ≡ true
+-- Of a conjunction that holds, both parts hold.
+pub and-l : (a b : Bool) → (a && b) ≡ true → a ≡ true
 and-l true b e = refl
 and-l false b e = e
 
-and-r : (a b : Bool) → (a && b) ≡ true → b ≡ true
+pub and-r : (a b : Bool) → (a && b) ≡ true → b ≡ true
 and-r true b e = e
 and-r false b e = cc
 
@@ -106,6 +106,10 @@ position-bounds p e = search (and-l, and-r, leb-true)
 
 pub bounds-position : (p : ℕ) → 1 ≤ p → p ≤ 4294967295 → isPosition p ≡ true
 bounds-position p l h = cc (le-leb 1 p l, le-leb p 4294967295 h)
+
+-- A speed lies between 1 and 5,000,000.
+pub speed-bounds : (v : ℕ) → isSpeed v ≡ true → (1 ≤ v) × (v ≤ 5000000)
+speed-bounds v e = search (and-l, and-r, leb-true)
 
 -- every field of a motor as a number, between the least and the greatest that it may be
 pub record Bounds (m : Motor) : Type 0 where
