@@ -106,7 +106,7 @@ tick-sound m s = go (way m)
         let drive = bounds-drive (goesOn m .drive) (b .going) (b .kind) (omega (arith, carried-below m)) (bounds-position (m .drive .target) (b .target .0) (b .target .1)) in
         let leeway : 1 ≤ room (m .drive .going) (goesOn m) = omega (arith, room-moved (m .drive .going) m (given m), room-not m u) in
         let aim = goes-on-aimed m (w .aim) e in
-        driving-sound (goesOn m) (search) (search) d
+        driving-sound (goesOn m) (search r) (search) d
 
 -- a course that leads somewhere: to a position other than the present one, or CW or CCW
 abbrev pub wellAimed : Motor → Course → Bool
