@@ -1,12 +1,11 @@
 -- Each operation on a sound motor leaves a sound motor. Assumes nothing.
-use mathlib.Core.Path.{_≡_, refl, sym}
+use mathlib.Core.Path.{_≡_, refl}
 use mathlib.Core.Bool.{Bool, true, false, _&&_, _||_, not, cond, false≢true}
-use mathlib.Core.Logic.{_⊎_, inl, inr}
-use Prim.Native.Nat.{ℕ, _+_, _-_, _≤_, _<_}
+use Prim.Native.Nat.{ℕ, _≤_}
 use native.Mathlib.Omega.{arith}
 use Rattle.digits.specs.Words.{isSet}
 use lib.Dec.{eqb, leb, ltb}
-use borrow.Author.Tests.{leb-true, le-leb, eqb-true, eqb-false, ne-eqb, ltb-true, ltb-false, not-true}
+use borrow.Author.Tests.{le-leb, eqb-true, eqb-false, ne-eqb, ltb-true, ltb-false, not-true}
 use Rattle.digits.specs.Places.{origin, isPosition, moved, ahead, cw, ccw}
 use Rattle.record.specs.declared.Limits.{Limits}
 use Rattle.record.specs.declared.Speeds.{Speeds}
@@ -16,15 +15,15 @@ use Rattle.record.specs.declared.Motor.{Motor}
 use Rattle.record.specs.Record.{withPlace, withLimits, withSpeeds, withWiring, withSetup}
 use Rattle.motor.specs.Switches.{blocked, edge, room}
 use Rattle.motor.specs.Sound.{isSpeed, limitsInRange, speedsInRange, wiringInRange, setupInRange, endFlagsInRange, driveInRange, aimRight, driving, soundMotor}
-use Rattle.motor.proofs.SoundLaws.{and-l, and-r, speed-bounds, InRange, UnderWay, Bounds, sound-parts, sound-driving, driving-sound, sound-standing, standing-sound, position-bounds, bounds-position, range-bounds, bounds-drive}
+use Rattle.motor.proofs.SoundLaws.{and-l, and-r, speed-bounds, InRange, Bounds, sound-parts, sound-driving, driving-sound, sound-standing, standing-sound, bounds-position, range-bounds, bounds-drive}
 use Rattle.motor.proofs.RoomLaws.{ahead-moved, room-moved, room-position}
 use Rattle.drive.specs.declared.Ticked.{Ticked}
 use Rattle.drive.specs.declared.Course.{Course}
 use Rattle.drive.specs.declared.Course.the-variants.{Stay, Beyond, To, Along}
 use Rattle.drive.specs.declared.Verdict.the-variants.{Done, Disabled, SwitchAhead, NoRoom}
 use Rattle.drive.specs.Drives.{lsend, speedNumbered, selectedSpeed, courseTo, towards, hindrance, judgeStart, launched, started, endedWith, stopped, speedChanged, contacted, switchRead}
-use Rattle.drive.specs.Ticks.{due, rest, toTarget, distanceLeft, roomLeft, given, reached, advanced, goesOn, tickMotor}
-use Rattle.drive.proofs.Laws.{carried-below, given-room, given-distance}
+use Rattle.drive.specs.Ticks.{toTarget, distanceLeft, given, reached, advanced, goesOn, tickMotor}
+use Rattle.drive.proofs.Laws.{carried-below, given-room}
 use Rattle.drive.proofs.TickLaws.{Way, rests, arrives, ends, goes, way, reached-not, room-not}
 
 -- A drive that ends leaves a sound motor, whatever ends it.

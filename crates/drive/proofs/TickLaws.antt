@@ -13,7 +13,7 @@ use Rattle.motor.specs.Sound.{driving}
 use Rattle.motor.proofs.RoomLaws.{moved-none}
 use Rattle.drive.specs.declared.Ticked.{Ticked}
 use Rattle.drive.specs.Drives.{endedWith, lsend}
-use Rattle.drive.specs.Ticks.{tickSpeed, due, rest, toTarget, distanceLeft, roomLeft, given, reached, usedUp, advanced, goesOn, drivenOn, tickMotor}
+use Rattle.drive.specs.Ticks.{tickSpeed, due, toTarget, distanceLeft, roomLeft, given, reached, usedUp, advanced, goesOn, drivenOn, tickMotor}
 use Rattle.drive.proofs.Laws.{nothing-rounded, given-due, given-room, given-distance}
 
 -- "Pulses given are the least of due, room and, for a target, the distance left": they are one of the three.
