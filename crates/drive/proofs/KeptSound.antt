@@ -15,16 +15,16 @@ use Rattle.record.specs.declared.Motor.{Motor}
 use Rattle.record.specs.Record.{withPlace, withLimits, withSpeeds, withWiring, withSetup}
 use Rattle.motor.specs.Switches.{blocked, edge, room}
 use Rattle.motor.specs.Sound.{isSpeed, limitsInRange, speedsInRange, wiringInRange, setupInRange, endFlagsInRange, driveInRange, aimRight, driving, soundMotor}
-use Rattle.motor.proofs.SoundLaws.{and-l, and-r, speed-bounds, InRange, Bounds, sound-parts, sound-driving, driving-sound, sound-standing, standing-sound, bounds-position, range-bounds, bounds-drive}
+use Rattle.motor.proofs.SoundLaws.{and-l, and-r, speed-bounds, InRange, Bounds, sound-parts, sound-driving, driving-sound, sound-standing, standing-sound, bounds-position, range-bounds, sound-bounds, bounds-drive}
 use Rattle.motor.proofs.RoomLaws.{ahead-moved, room-moved, room-position}
 use Rattle.drive.specs.declared.Ticked.{Ticked}
 use Rattle.drive.specs.declared.Course.{Course}
 use Rattle.drive.specs.declared.Course.the-variants.{Stay, Beyond, To, Along}
 use Rattle.drive.specs.declared.Verdict.the-variants.{Done, Disabled, SwitchAhead, NoRoom}
 use Rattle.drive.specs.Drives.{lsend, speedNumbered, selectedSpeed, courseTo, towards, hindrance, judgeStart, launched, started, endedWith, stopped, speedChanged, contacted, switchRead}
-use Rattle.drive.specs.Ticks.{toTarget, distanceLeft, given, reached, advanced, goesOn, tickMotor}
-use Rattle.drive.proofs.Laws.{carried-below, given-room}
-use Rattle.drive.proofs.TickLaws.{Way, rests, arrives, ends, goes, way, reached-not, room-not}
+use Rattle.drive.specs.Ticks.{tickSpeed, due, toTarget, distanceLeft, given, reached, advanced, goesOn, tickMotor}
+use Rattle.drive.proofs.Laws.{nothing-rounded, carried-below, given-room}
+use Rattle.drive.proofs.TickLaws.{Way, rests, arrives, ends, goes, way, reached-not, room-not, never-early}
 
 -- A drive that ends leaves a sound motor, whatever ends it.
 pub ended-sound : (flags : ℕ) (m : Motor) → endFlagsInRange flags ≡ true → InRange m → soundMotor (endedWith flags m) ≡ true
@@ -73,7 +73,7 @@ switch-read-sound m n h s = go (driving m) refl (blocked (m .drive .going) (cont
     go false d b e = standing-sound (contacted m n) r (sound-standing m s d)
 
 -- A tick leaves a sound motor: within its room it stays on positions, and a drive that goes on has room and distance left.
-advanced-in-range : (m : Motor) → InRange m → InRange (advanced m)
+pub advanced-in-range : (m : Motor) → InRange m → InRange (advanced m)
 advanced-in-range m r = let place = room-position (m .drive .going) m (given m) r (given-room m) in search
 
 goes-on-aimed : (m : Motor) → aimRight m ≡ true → reached m ≡ false → aimRight (goesOn m) ≡ true
@@ -106,6 +106,21 @@ tick-sound m s = go (way m)
         let leeway : 1 ≤ room (m .drive .going) (goesOn m) = omega (arith, room-moved (m .drive .going) m (given m), room-not m u) in
         let aim = goes-on-aimed m (w .aim) e in
         driving-sound (goesOn m) (search r) (search) d
+
+-- A tick of a sound motor goes at 5,000,000 pps at most, and gives 5,000 pulses at most.
+pub tick-speed-bound : (m : Motor) → soundMotor m ≡ true → tickSpeed m ≤ 5000000
+unfolding tickSpeed
+tick-speed-bound m s = go (driving m) refl
+  where
+    go : (t : Bool) → driving m ≡ t → cond t (m .drive .speed) 0 ≤ 5000000
+    go true d = sound-driving m s d .fastest
+    go false d = omega arith
+
+pub due-bound : (m : Motor) → soundMotor m ≡ true → due m ≤ 5000
+due-bound m s = omega (arith, nothing-rounded m, tick-speed-bound m s, sound-bounds m s .fraction)
+
+pub pulses-bound : (m : Motor) → soundMotor m ≡ true → tickMotor m .pulses ≤ 5000
+pulses-bound m s = omega (arith, never-early m, tick-speed-bound m s, sound-bounds m s .fraction)
 
 -- a course that leads somewhere: to a position other than the present one, or CW or CCW
 abbrev pub wellAimed : Motor → Course → Bool

@@ -11,7 +11,7 @@ use Rattle.record.specs.declared.Motor.{Motor}
 use Rattle.record.specs.Record.{withPlace, withDrive}
 use Rattle.motor.specs.Switches.{edge, room}
 use Rattle.motor.specs.Sound.{aimRight, driving, soundMotor}
-use Rattle.motor.proofs.SoundLaws.{and-r, sound-parts, sound-driving, range-bounds}
+use Rattle.motor.proofs.SoundLaws.{and-r, sound-driving, sound-bounds}
 use Rattle.motor.proofs.RoomLaws.{moved-none, moved-twice, ahead-moved, moved-ahead, room-moved}
 use Rattle.drive.specs.declared.Ticked.{Ticked}
 use Rattle.drive.specs.declared.Course.the-variants.{To}
@@ -44,9 +44,12 @@ ticks-sum zero k m = rw (zero-add, ticks-none)
 ticks-sum (suc j) k m = sum-more j k m (ticks-sum j k m)
 
 -- Ticks leave a stopped motor as it is, and a sound motor sound.
+rest-more : (k : ℕ) (m : Motor) → driving m ≡ false → ticks k m ≡ m → ticks (suc k) m ≡ m
+rest-more k m d e = rw (ticks-more, e, stopped-given-none)
+
 pub ticks-rest : (k : ℕ) (m : Motor) → driving m ≡ false → ticks k m ≡ m
 ticks-rest zero m d = ticks-none m
-ticks-rest (suc k) m d = rw (ticks-more, ticks-rest k m d, stopped-given-none)
+ticks-rest (suc k) m d = rest-more k m d (ticks-rest k m d)
 
 pub ticks-sound : (k : ℕ) (m : Motor) → soundMotor m ≡ true → soundMotor (ticks k m) ≡ true
 ticks-sound zero m s = rw ticks-none s
@@ -81,7 +84,7 @@ driven-more t v m =
     rw (moved-twice, whole, part)
 
 -- a drive to a target that lies ahead, within room, with a fraction and a speed in their ranges
-pub record Bound (m : Motor) : Type 0 where
+pub record OnCourse (m : Motor) : Type 0 where
   pub drives : driving m ≡ true
   pub aimed : toTarget m ≡ true
   pub before : 1 ≤ distanceLeft m
@@ -90,12 +93,12 @@ pub record Bound (m : Motor) : Type 0 where
   pub moves : 1 ≤ m .drive .speed
 
 -- A sound drive to a target has the target ahead.
-pub sound-bound :
-    (m : Motor) → soundMotor m ≡ true → driving m ≡ true → toTarget m ≡ true → distanceLeft m ≤ roomLeft m → Bound m
+pub sound-on-course :
+    (m : Motor) → soundMotor m ≡ true → driving m ≡ true → toTarget m ≡ true → distanceLeft m ≤ roomLeft m → OnCourse m
 unfolding aimRight distanceLeft
-sound-bound m s d t w =
+sound-on-course m s d t w =
     let u = sound-driving m s d in
-    record { drives = d; aimed = t; before = leb-true 1 _ (rw t at (u .aim)); within = w; carries = omega (arith, range-bounds m (sound-parts m s .range) .fraction); moves = u .slowest }
+    record { drives = d; aimed = t; before = leb-true 1 _ (rw t at (u .aim)); within = w; carries = omega (arith, sound-bounds m s .fraction); moves = u .slowest }
 
 -- On its way such a drive stays such a drive, with as many pulses less to go as it has been driven.
 pub distance-driven : (t : ℕ) (m : Motor) → distanceLeft (drivenBy t m) ≡ distanceLeft m - t / 1000
@@ -106,8 +109,8 @@ pub room-driven : (t : ℕ) (m : Motor) → roomLeft (drivenBy t m) ≡ roomLeft
 unfolding room edge
 room-driven t m = room-moved (m .drive .going) m (t / 1000)
 
-pub bound-driven : (t : ℕ) (m : Motor) → Bound m → t < 1000 * distanceLeft m → Bound (drivenBy t m)
-bound-driven t m b h =
+pub on-course-driven : (t : ℕ) (m : Motor) → OnCourse m → t < 1000 * distanceLeft m → OnCourse (drivenBy t m)
+on-course-driven t m b h =
     let e = distance-driven t m in
     let r = room-driven t m in
     let before : 1 ≤ distanceLeft (drivenBy t m) = omega arith in
@@ -122,7 +125,7 @@ unfolding tickSpeed
 speed-in-force m d = rw d
 
 pub tick-goes :
-    (m : Motor) → Bound m → m .drive .fraction + m .drive .speed < 1000 * distanceLeft m
+    (m : Motor) → OnCourse m → m .drive .fraction + m .drive .speed < 1000 * distanceLeft m
     → tickMotor m ≡ record { motor = drivenBy (m .drive .fraction + m .drive .speed) m; pulses = (m .drive .fraction + m .drive .speed) / 1000 }
 tick-goes m b h = go (way m)
   where
@@ -139,12 +142,12 @@ tick-goes m b h = go (way m)
         let part : rest m ≡ (m .drive .fraction + m .drive .speed) % 1000 = omega (arith, v, nothing-rounded m, carried-below m) in
         rw (whole, part)
 
-there : (m : Motor) → Bound m → moved (m .drive .going) (m .place) (distanceLeft m) ≡ m .drive .target
+there : (m : Motor) → OnCourse m → moved (m .drive .going) (m .place) (distanceLeft m) ≡ m .drive .target
 unfolding distanceLeft
 there m b = moved-ahead (m .drive .going) (m .place) (m .drive .target) (b .before)
 
 pub tick-arrives :
-    (m : Motor) → Bound m → 1000 * distanceLeft m ≤ m .drive .fraction + m .drive .speed
+    (m : Motor) → OnCourse m → 1000 * distanceLeft m ≤ m .drive .fraction + m .drive .speed
     → tickMotor m ≡ record { motor = arrived m; pulses = distanceLeft m }
 tick-arrives m b h = go (way m)
   where
@@ -160,29 +163,29 @@ tick-arrives m b h = go (way m)
 -- k ticks of such a drive: while the fraction and k times the speed do not make up the distance, it goes on; with the tick
 -- that makes it up, it arrives.
 one-more :
-    (k : ℕ) (m : Motor) → Bound m → m .drive .fraction + suc k * m .drive .speed < 1000 * distanceLeft m
+    (k : ℕ) (m : Motor) → OnCourse m → m .drive .fraction + suc k * m .drive .speed < 1000 * distanceLeft m
     → ticks k m ≡ drivenBy (m .drive .fraction + k * m .drive .speed) m
     → ticks (suc k) m ≡ drivenBy (m .drive .fraction + suc k * m .drive .speed) m
 one-more k m b h so-far =
     let t : ℕ = m .drive .fraction + k * m .drive .speed in
     let e = distance-driven t m in
-    let step = tick-goes (drivenBy t m) (bound-driven t m b (omega arith)) (omega arith) in
+    let step = tick-goes (drivenBy t m) (on-course-driven t m b (omega arith)) (omega arith) in
     let more : t + m .drive .speed ≡ m .drive .fraction + suc k * m .drive .speed = omega arith in
     rw (ticks-more, so-far, step, driven-more, more)
 
 pub ticks-go :
-    (k : ℕ) (m : Motor) → Bound m → m .drive .fraction + k * m .drive .speed < 1000 * distanceLeft m
+    (k : ℕ) (m : Motor) → OnCourse m → m .drive .fraction + k * m .drive .speed < 1000 * distanceLeft m
     → ticks k m ≡ drivenBy (m .drive .fraction + k * m .drive .speed) m
 ticks-go zero m b h = rw (ticks-none, zero-mul, add-zero) (sym (driven-none m (b .carries)))
 ticks-go (suc k) m b h = one-more k m b h (ticks-go k m b (omega arith))
 
 pub ticks-arrive :
-    (k : ℕ) (m : Motor) → Bound m → m .drive .fraction + k * m .drive .speed < 1000 * distanceLeft m
+    (k : ℕ) (m : Motor) → OnCourse m → m .drive .fraction + k * m .drive .speed < 1000 * distanceLeft m
     → 1000 * distanceLeft m ≤ m .drive .fraction + suc k * m .drive .speed → ticks (suc k) m ≡ arrived m
 ticks-arrive k m b h a =
     let t : ℕ = m .drive .fraction + k * m .drive .speed in
     let e = distance-driven t m in
-    let step = tick-arrives (drivenBy t m) (bound-driven t m b (omega arith)) (omega arith) in
+    let step = tick-arrives (drivenBy t m) (on-course-driven t m b (omega arith)) (omega arith) in
     rw (ticks-more, ticks-go k m b h, step)
 
 -- A number below a / v rounded up, times v, is below a; and a / v rounded up, times v, is not.
@@ -194,14 +197,14 @@ rounded-covers a v p = omega (arith, lt-div-mul-add {a = a + (v - 1)} {b = v} p)
 
 -- Such a drive with a fraction lasts before tick (D·1000 less the fraction)/v rounded up, and has arrived with it.
 pub lasts-before :
-    (m : Motor) → Bound m → (k : ℕ) → k < roundedUp (distanceLeft m * 1000 - m .drive .fraction) (m .drive .speed)
+    (m : Motor) → OnCourse m → (k : ℕ) → k < roundedUp (distanceLeft m * 1000 - m .drive .fraction) (m .drive .speed)
     → driving (ticks k m) ≡ true
 lasts-before m b k h =
     let under = below-rounded (distanceLeft m * 1000 - m .drive .fraction) (m .drive .speed) k (b .moves) h in
     rw (ticks-go k m b (omega arith)) (b .drives)
 
 pub arrives-with :
-    (m : Motor) → Bound m → ticks (roundedUp (distanceLeft m * 1000 - m .drive .fraction) (m .drive .speed)) m ≡ arrived m
+    (m : Motor) → OnCourse m → ticks (roundedUp (distanceLeft m * 1000 - m .drive .fraction) (m .drive .speed)) m ≡ arrived m
 arrives-with m b = go (roundedUp a v) refl
   where
     a : ℕ
@@ -219,46 +222,36 @@ arrives-with m b = go (roundedUp a v) refl
 
 -- "A drive to a target at distance D and speed v, with no stop, SPC or switch reading on its channel and D within room, ends
 -- at tick D·1000/v rounded up": it drives before that tick; with it, it stands stopped at its target, with end flags 0.
-pub drives-before :
-    (m : Motor) → soundMotor m ≡ true → driving m ≡ true → toTarget m ≡ true → m .drive .fraction ≡ 0 → distanceLeft m ≤ roomLeft m
-    → (k : ℕ) → k < roundedUp (distanceLeft m * 1000) (m .drive .speed) → driving (ticks k m) ≡ true
-drives-before m s d t f w k h =
-    let e : distanceLeft m * 1000 - m .drive .fraction ≡ distanceLeft m * 1000 = omega arith in
-    lasts-before m (sound-bound m s d t w) k (rw e h)
+module _ (m : Motor) (s : soundMotor m ≡ true) (d : driving m ≡ true) (t : toTarget m ≡ true) (f : m .drive .fraction ≡ 0) (w : distanceLeft m ≤ roomLeft m) where
+  no-fraction : distanceLeft m * 1000 - m .drive .fraction ≡ distanceLeft m * 1000
+  no-fraction = omega arith
 
-pub last-tick :
-    (m : Motor) → soundMotor m ≡ true → driving m ≡ true → toTarget m ≡ true → m .drive .fraction ≡ 0 → distanceLeft m ≤ roomLeft m
-    → ticks (roundedUp (distanceLeft m * 1000) (m .drive .speed)) m ≡ arrived m
-last-tick m s d t f w =
-    let e : distanceLeft m * 1000 - m .drive .fraction ≡ distanceLeft m * 1000 = omega arith in
-    rw e at (arrives-with m (sound-bound m s d t w))
+  pub drives-before : (k : ℕ) → k < roundedUp (distanceLeft m * 1000) (m .drive .speed) → driving (ticks k m) ≡ true
+  drives-before k h = lasts-before m (sound-on-course m s d t w) k (rw no-fraction h)
 
-pub ends-stopped :
-    (m : Motor) → soundMotor m ≡ true → driving m ≡ true → toTarget m ≡ true → m .drive .fraction ≡ 0 → distanceLeft m ≤ roomLeft m
-    → (k : ℕ) → k ≡ roundedUp (distanceLeft m * 1000) (m .drive .speed)
-    → (driving (ticks k m) ≡ false) × (ticks k m .place ≡ m .drive .target) × (ticks k m .ended ≡ 0)
-ends-stopped m s d t f w k e = rw (e, last-tick m s d t f w) (refl, refl, refl)
+  pub last-tick : ticks (roundedUp (distanceLeft m * 1000) (m .drive .speed)) m ≡ arrived m
+  last-tick = rw no-fraction at (arrives-with m (sound-on-course m s d t w))
+
+  pub ends-stopped :
+      (k : ℕ) → k ≡ roundedUp (distanceLeft m * 1000) (m .drive .speed)
+      → (driving (ticks k m) ≡ false) × (ticks k m .place ≡ m .drive .target) × (ticks k m .ended ≡ 0)
+  ends-stopped k e = rw (e, last-tick) (refl, refl, refl)
 
 -- The same of a drive from its start on: an accepted start of a sound motor to a place at distance D within room, at the
 -- selected speed.
-started-drives : (m : Motor) (p : ℕ) → wellAimed m (To p) ≡ true → driving (started m (To p)) ≡ true
-unfolding started
-started-drives m p a =
-    let t = towards-ahead m p (not-true _ (and-r (isPosition p) _ a)) in
-    rw (ne-eqb (towards m p) 0 (omega arith))
+module _ (m : Motor) (p : ℕ) (s : soundMotor m ≡ true) (h : judgeStart m (To p) ≡ Done) (a : wellAimed m (To p) ≡ true) (w : ahead (towards m p) (m .place) p ≤ room (towards m p) m) where
+  started-drives : driving (started m (To p)) ≡ true
+  unfolding started
+  started-drives =
+      let t = towards-ahead m p (not-true _ (and-r (isPosition p) _ a)) in
+      rw (ne-eqb (towards m p) 0 (omega arith))
 
-pub started-drives-before :
-    (m : Motor) (p : ℕ) → soundMotor m ≡ true → judgeStart m (To p) ≡ Done → wellAimed m (To p) ≡ true
-    → ahead (towards m p) (m .place) p ≤ room (towards m p) m
-    → (k : ℕ) → k < roundedUp (ahead (towards m p) (m .place) p * 1000) (selectedSpeed m) → driving (ticks k (started m (To p))) ≡ true
-unfolding started distanceLeft room edge
-started-drives-before m p s h a w k l =
-    drives-before (started m (To p)) (started-sound m (To p) s h a) (started-drives m p a) refl refl w k l
+  pub started-drives-before :
+      (k : ℕ) → k < roundedUp (ahead (towards m p) (m .place) p * 1000) (selectedSpeed m) → driving (ticks k (started m (To p))) ≡ true
+  unfolding started distanceLeft room edge
+  started-drives-before = drives-before (started m (To p)) (started-sound m (To p) s h a) started-drives refl refl w
 
-pub started-last-tick :
-    (m : Motor) (p : ℕ) → soundMotor m ≡ true → judgeStart m (To p) ≡ Done → wellAimed m (To p) ≡ true
-    → ahead (towards m p) (m .place) p ≤ room (towards m p) m
-    → ticks (roundedUp (ahead (towards m p) (m .place) p * 1000) (selectedSpeed m)) (started m (To p)) ≡ endedWith 0 (withPlace m p)
-unfolding started distanceLeft room edge
-started-last-tick m p s h a w =
-    last-tick (started m (To p)) (started-sound m (To p) s h a) (started-drives m p a) refl refl w
+  pub started-last-tick :
+      ticks (roundedUp (ahead (towards m p) (m .place) p * 1000) (selectedSpeed m)) (started m (To p)) ≡ endedWith 0 (withPlace m p)
+  unfolding started distanceLeft room edge
+  started-last-tick = last-tick (started m (To p)) (started-sound m (To p) s h a) started-drives refl refl w

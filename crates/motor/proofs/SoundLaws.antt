@@ -129,7 +129,7 @@ pub record Bounds (m : Motor) : Type 0 where
   pub fraction : m .drive .fraction ≤ 999
   pub target : (1 ≤ m .drive .target) × (m .drive .target ≤ 4294967295)
 
--- Fields in range lie between their bounds.
+-- Fields in range lie between their bounds, and so do those of a sound motor.
 flags-bound : (e : ℕ) → endFlagsInRange e ≡ true → e ≤ 128
 flags-bound e h = go (leb e 128) refl
   where
@@ -142,6 +142,9 @@ flags-bound e h = go (leb e 128) refl
 pub range-bounds : (m : Motor) → InRange m → Bounds m
 unfolding limitsInRange speedsInRange wiringInRange setupInRange driveInRange
 range-bounds m r = search (and-l, and-r, leb-true, eqb-true, flags-bound)
+
+pub sound-bounds : (m : Motor) → soundMotor m ≡ true → Bounds m
+sound-bounds m e = range-bounds m (sound-parts m e .range)
 
 -- A drive with its four fields in range is in range: its speed is judged with the motor's way.
 pub bounds-drive :
