@@ -1,4 +1,4 @@
--- Each operation on a sound motor leaves a sound motor. Assumes nothing.
+-- Each operation on a sound motor leaves a sound motor, and a tick of one is small. Assumes nothing.
 use mathlib.Core.Path.{_≡_, refl}
 use mathlib.Core.Bool.{Bool, true, false, _&&_, _||_, not, cond, false≢true}
 use Prim.Native.Nat.{ℕ, _≤_}
@@ -122,14 +122,14 @@ due-bound m s = omega (arith, nothing-rounded m, tick-speed-bound m s, sound-bou
 pub pulses-bound : (m : Motor) → soundMotor m ≡ true → tickMotor m .pulses ≤ 5000
 pulses-bound m s = omega (arith, never-early m, tick-speed-bound m s, sound-bounds m s .fraction)
 
--- a course that leads somewhere: to a position other than the present one, or CW or CCW
+-- a well-formed course: none, beyond the range, to a position other than the present one, or along CW or CCW
 abbrev pub wellAimed : Motor → Course → Bool
 wellAimed m Stay = true
 wellAimed m Beyond = true
 wellAimed m (To p) = isPosition p && not (eqb p (m .place))
 wellAimed m (Along going) = eqb going cw || eqb going ccw
 
--- The course to a number of pulses from a place is such a course.
+-- The course to the place some pulses from a place is well formed.
 pub course-aimed : (m : Motor) (going p n : ℕ) → wellAimed m (courseTo m going p n) ≡ true
 unfolding courseTo
 course-aimed m going p n = go (eqb (moved going p n) (m .place)) refl (isPosition (moved going p n)) refl

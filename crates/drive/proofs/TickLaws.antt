@@ -64,6 +64,7 @@ pub data Way (m : Motor) : Ticked → Type 0 where
   ends : driving m ≡ true → reached m ≡ false → usedUp m ≡ true → Way m (record { motor = endedWith lsend (advanced m); pulses = given m })
   goes : driving m ≡ true → reached m ≡ false → usedUp m ≡ false → Way m (record { motor = goesOn m; pulses = given m })
 
+-- Every tick goes one of them.
 pub way : (m : Motor) → Way m (tickMotor m)
 unfolding tickMotor drivenOn
 way m = go (driving m) refl (reached m) refl (usedUp m) refl
