@@ -15,7 +15,7 @@ use Rattle.record.specs.declared.Motor.{Motor}
 use Rattle.record.specs.Record.{withPlace, withLimits, withSpeeds, withWiring, withSetup}
 use Rattle.motor.specs.Switches.{blocked, edge, room}
 use Rattle.motor.specs.Sound.{isSpeed, limitsInRange, speedsInRange, wiringInRange, setupInRange, endFlagsInRange, driveInRange, aimRight, driving, soundMotor}
-use Rattle.motor.proofs.SoundLaws.{and-l, and-r, speed-bounds, InRange, Bounds, sound-parts, sound-driving, driving-sound, sound-standing, standing-sound, bounds-position, range-bounds, sound-bounds, bounds-drive}
+use Rattle.motor.proofs.SoundLaws.{and-l, and-r, speed-bounds, InRange, Bounds, sound-parts, sound-driving, driving-sound, sound-standing, standing-sound, range-bounds, sound-bounds, target-position, bounds-drive}
 use Rattle.motor.proofs.RoomLaws.{ahead-moved, room-moved, room-position}
 use Rattle.drive.specs.declared.Ticked.{Ticked}
 use Rattle.drive.specs.declared.Course.{Course}
@@ -44,11 +44,13 @@ stopped-sound flags m f s = go (driving m)
 -- A change of speed leaves a sound motor.
 pub speed-changed-sound :
     (m : Motor) (v : ℕ) → isSpeed v ≡ true → driving m ≡ true → soundMotor m ≡ true → soundMotor (speedChanged m v) ≡ true
-unfolding speedChanged driveInRange room edge blocked aimRight
+unfolding speedChanged room edge blocked aimRight
 speed-changed-sound m v e d s =
     let r = sound-parts m s .range in
     let w = sound-driving m s d in
     let b = speed-bounds v e in
+    let f = sound-bounds m s in
+    let drive = bounds-drive (speedChanged m v .drive) (f .going) (f .kind) (omega arith) (target-position (m .drive) (r .drive)) in
     driving-sound (speedChanged m v) (search) (search) d
 
 -- A switch reading leaves a sound motor.
@@ -102,7 +104,7 @@ tick-sound m s = go (way m)
     go (goes d e u) =
         let w = sound-driving m s d in
         let b = range-bounds (advanced m) r in
-        let drive = bounds-drive (goesOn m .drive) (b .going) (b .kind) (omega (arith, carried-below m)) (bounds-position (m .drive .target) (b .target .0) (b .target .1)) in
+        let drive = bounds-drive (goesOn m .drive) (b .going) (b .kind) (omega (arith, carried-below m)) (target-position (m .drive) (r .drive)) in
         let leeway : 1 ≤ room (m .drive .going) (goesOn m) = omega (arith, room-moved (m .drive .going) m (given m), room-not m u) in
         let aim = goes-on-aimed m (w .aim) e in
         driving-sound (goesOn m) (search r) (search) d

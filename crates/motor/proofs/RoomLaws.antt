@@ -8,7 +8,8 @@ use Rattle.digits.specs.Places.{lowest, highest, isPosition, moved, ahead, cw}
 use Rattle.record.specs.declared.Motor.{Motor}
 use Rattle.record.specs.Record.{withPlace}
 use Rattle.motor.specs.Switches.{digital, edge, room}
-use Rattle.motor.proofs.SoundLaws.{InRange, range-bounds, position-bounds, bounds-position}
+use Rattle.motor.specs.Sound.{limitsInRange}
+use Rattle.motor.proofs.SoundLaws.{and-l, and-r, InRange, position-bounds, bounds-position}
 
 -- No pulse leaves a motor where it is, and a pulses and then b are a + b.
 pub moved-none : (going p : ℕ) → moved going p 0 ≡ p
@@ -52,14 +53,18 @@ either-position : (t : Bool) (p q : ℕ) → isPosition p ≡ true → isPositio
 either-position true p q ep eq = ep
 either-position false p q ep eq = eq
 
+capped-position : (p : ℕ) → isPosition p ≡ true → (isPosition (min highest p) ≡ true) × (isPosition (max lowest p) ≡ true)
+capped-position p e =
+    let b = position-bounds p e in
+    (bounds-position (min highest p) (omega arith) (omega arith), bounds-position (max lowest p) (omega arith) (omega arith))
+
 pub edge-position : (going : ℕ) (m : Motor) → InRange m → isPosition (edge going m) ≡ true
-unfolding edge
+unfolding edge limitsInRange
 edge-position going m r =
-    let b = range-bounds m r in
-    let a = bounds-position (min highest (m .limits .cw)) (omega arith) (omega arith) in
-    let z = bounds-position (max lowest (m .limits .ccw)) (omega arith) (omega arith) in
+    let c = capped-position (m .limits .cw) (search (and-l, and-r)) in
+    let d = capped-position (m .limits .ccw) (search (and-l, and-r)) in
     either-position (eqb going cw) _ _
-    (either-position (digital (m .wiring)) _ highest a refl) (either-position (digital (m .wiring)) _ lowest z refl)
+    (either-position (digital (m .wiring)) _ highest (search) refl) (either-position (digital (m .wiring)) _ lowest (search) refl)
 
 -- "Position moves by them": n pulses on, no further than a position q that lies ahead, is a position.
 pub moved-position :

@@ -146,6 +146,11 @@ range-bounds m r = search (and-l, and-r, leb-true, eqb-true, flags-bound)
 pub sound-bounds : (m : Motor) → soundMotor m ≡ true → Bounds m
 sound-bounds m e = range-bounds m (sound-parts m e .range)
 
+-- The target of a drive in range is a position.
+pub target-position : (d : Drive) → driveInRange d ≡ true → isPosition (d .target) ≡ true
+unfolding driveInRange
+target-position d e = and-r (leb (d .going) 2 && leb (d .kind) 1 && leb (d .fraction) 999) _ e
+
 -- A drive with its four fields in range is in range: its speed is judged with the motor's way.
 pub bounds-drive :
     (d : Drive) → d .going ≤ 2 → d .kind ≤ 1 → d .fraction ≤ 999 → isPosition (d .target) ≡ true → driveInRange d ≡ true
