@@ -1,2 +1,4 @@
 pub mod Laws
+pub mod SoundLaws
+pub mod RoomLaws
 pub mod Cases

@@ -1,0 +1,247 @@
+-- Each operation on a sound motor leaves a sound motor, and a tick of one is small. Assumes nothing.
+use mathlib.Core.Path.{_≡_, refl}
+use mathlib.Core.Bool.{Bool, true, false, _&&_, _||_, not, cond, false≢true}
+use Prim.Native.Nat.{ℕ, _≤_}
+use native.Mathlib.Omega.{arith}
+use Rattle.digits.specs.Words.{isSet}
+use lib.Dec.{eqb, leb, ltb}
+use borrow.Author.Tests.{le-leb, eqb-true, eqb-false, ne-eqb, ltb-true, ltb-false, not-true}
+use Rattle.digits.specs.Places.{origin, isPosition, moved, ahead, cw, ccw}
+use Rattle.record.specs.declared.Limits.{Limits}
+use Rattle.record.specs.declared.Speeds.{Speeds}
+use Rattle.record.specs.declared.Wiring.{Wiring}
+use Rattle.record.specs.declared.Setup.{Setup}
+use Rattle.record.specs.declared.Motor.{Motor}
+use Rattle.record.specs.Record.{withPlace, withLimits, withSpeeds, withWiring, withSetup}
+use Rattle.motor.specs.Switches.{blocked, edge, room}
+use Rattle.motor.specs.Sound.{isSpeed, limitsInRange, speedsInRange, wiringInRange, setupInRange, endFlagsInRange, driveInRange, aimRight, driving, soundMotor}
+use Rattle.motor.proofs.SoundLaws.{and-l, and-r, speed-bounds, InRange, Bounds, sound-parts, sound-driving, driving-sound, sound-standing, standing-sound, range-bounds, sound-bounds, target-position, bounds-drive}
+use Rattle.motor.proofs.RoomLaws.{ahead-moved, room-moved, room-position}
+use Rattle.drive.specs.declared.Ticked.{Ticked}
+use Rattle.drive.specs.declared.Course.{Course}
+use Rattle.drive.specs.declared.Course.the-variants.{Stay, Beyond, To, Along}
+use Rattle.drive.specs.declared.Verdict.the-variants.{Done, Disabled, SwitchAhead, NoRoom}
+use Rattle.drive.specs.Drives.{lsend, speedNumbered, selectedSpeed, courseTo, towards, hindrance, judgeStart, launched, started, endedWith, stopped, speedChanged, contacted, switchRead}
+use Rattle.drive.specs.Ticks.{tickSpeed, due, toTarget, distanceLeft, given, reached, advanced, goesOn, tickMotor}
+use Rattle.drive.proofs.Laws.{nothing-rounded, carried-below, given-room}
+use Rattle.drive.proofs.TickLaws.{Way, rests, arrives, ends, goes, way, reached-not, room-not, never-early}
+
+-- A drive that ends leaves a sound motor, whatever ends it.
+pub ended-sound : (flags : ℕ) (m : Motor) → endFlagsInRange flags ≡ true → InRange m → soundMotor (endedWith flags m) ≡ true
+unfolding driveInRange
+ended-sound flags m f r = standing-sound (endedWith flags m) (search) refl
+
+-- A stop leaves a sound motor.
+pub stopped-sound :
+    (flags : ℕ) (m : Motor) → endFlagsInRange flags ≡ true → soundMotor m ≡ true → soundMotor (stopped flags m) ≡ true
+unfolding stopped
+stopped-sound flags m f s = go (driving m)
+  where
+    go : (t : Bool) → soundMotor (cond t (endedWith flags m) m) ≡ true
+    go true = ended-sound flags m f (sound-parts m s .range)
+    go false = s
+
+-- A change of speed leaves a sound motor.
+pub speed-changed-sound :
+    (m : Motor) (v : ℕ) → isSpeed v ≡ true → driving m ≡ true → soundMotor m ≡ true → soundMotor (speedChanged m v) ≡ true
+unfolding speedChanged room edge blocked aimRight
+speed-changed-sound m v e d s =
+    let r = sound-parts m s .range in
+    let w = sound-driving m s d in
+    let b = speed-bounds v e in
+    let f = sound-bounds m s in
+    let drive = bounds-drive (speedChanged m v .drive) (f .going) (f .kind) (omega arith) (target-position (m .drive) (r .drive)) in
+    driving-sound (speedChanged m v) (search) (search) d
+
+-- A switch reading leaves a sound motor.
+contacts-in-range : (m : Motor) (n : ℕ) → n ≤ 7 → InRange m → InRange (contacted m n)
+unfolding wiringInRange
+contacts-in-range m n h r =
+    let kept = and-l (leb (m .wiring .setls) 255 && not (isSet 3 (m .wiring .setls))) (leb (m .wiring .contacts) 7) (r .wiring) in
+    let wiring : wiringInRange (contacted m n .wiring) ≡ true = cc (le-leb n 7 h) in
+    search
+
+pub switch-read-sound : (m : Motor) (n : ℕ) → n ≤ 7 → soundMotor m ≡ true → soundMotor (switchRead m n) ≡ true
+unfolding switchRead room edge aimRight
+switch-read-sound m n h s = go (driving m) refl (blocked (m .drive .going) (contacted m n)) refl
+  where
+    r : InRange (contacted m n)
+    r = contacts-in-range m n h (sound-parts m s .range)
+
+    go : (d : Bool) → driving m ≡ d → (b : Bool) → blocked (m .drive .going) (contacted m n) ≡ b
+        → soundMotor (cond (d && b) (endedWith lsend (contacted m n)) (contacted m n)) ≡ true
+    go true d true b = ended-sound lsend (contacted m n) refl r
+    go true d false b = let w = sound-driving m s d in driving-sound (contacted m n) r (search) d
+    go false d b e = standing-sound (contacted m n) r (sound-standing m s d)
+
+-- A tick leaves a sound motor: within its room it stays on positions, and a drive that goes on has room and distance left.
+pub advanced-in-range : (m : Motor) → InRange m → InRange (advanced m)
+advanced-in-range m r = let place = room-position (m .drive .going) m (given m) r (given-room m) in search
+
+goes-on-aimed : (m : Motor) → aimRight m ≡ true → reached m ≡ false → aimRight (goesOn m) ≡ true
+unfolding aimRight distanceLeft
+goes-on-aimed m a r = go (toTarget m) refl
+  where
+    left : ℕ
+    left = ahead (m .drive .going) (advanced m .place) (m .drive .target)
+
+    go : (t : Bool) → toTarget m ≡ t → cond t (leb 1 left) (eqb (m .drive .target) origin) ≡ true
+    go true t =
+        le-leb 1 left (omega (arith, ahead-moved (m .drive .going) (m .place) (m .drive .target) (given m), reached-not m r t))
+    go false t = rw t at a
+
+pub tick-sound : (m : Motor) → soundMotor m ≡ true → soundMotor (tickMotor m .motor) ≡ true
+unfolding room edge blocked
+tick-sound m s = go (way m)
+  where
+    r : InRange (advanced m)
+    r = advanced-in-range m (sound-parts m s .range)
+
+    go : {t : Ticked} → Way m t → soundMotor (t .motor) ≡ true
+    go (rests d) = s
+    go (arrives d e) = ended-sound 0 (advanced m) refl r
+    go (ends d e u) = ended-sound lsend (advanced m) refl r
+    go (goes d e u) =
+        let w = sound-driving m s d in
+        let b = range-bounds (advanced m) r in
+        let drive = bounds-drive (goesOn m .drive) (b .going) (b .kind) (omega (arith, carried-below m)) (target-position (m .drive) (r .drive)) in
+        let leeway : 1 ≤ room (m .drive .going) (goesOn m) = omega (arith, room-moved (m .drive .going) m (given m), room-not m u) in
+        let aim = goes-on-aimed m (w .aim) e in
+        driving-sound (goesOn m) (search r) (search) d
+
+-- A tick of a sound motor goes at 5,000,000 pps at most, and gives 5,000 pulses at most.
+pub tick-speed-bound : (m : Motor) → soundMotor m ≡ true → tickSpeed m ≤ 5000000
+unfolding tickSpeed
+tick-speed-bound m s = go (driving m) refl
+  where
+    go : (t : Bool) → driving m ≡ t → cond t (m .drive .speed) 0 ≤ 5000000
+    go true d = sound-driving m s d .fastest
+    go false d = omega arith
+
+pub due-bound : (m : Motor) → soundMotor m ≡ true → due m ≤ 5000
+due-bound m s = omega (arith, nothing-rounded m, tick-speed-bound m s, sound-bounds m s .fraction)
+
+pub pulses-bound : (m : Motor) → soundMotor m ≡ true → tickMotor m .pulses ≤ 5000
+pulses-bound m s = omega (arith, never-early m, tick-speed-bound m s, sound-bounds m s .fraction)
+
+-- a well-formed course: none, beyond the range, to a position other than the present one, or along CW or CCW
+abbrev pub wellAimed : Motor → Course → Bool
+wellAimed m Stay = true
+wellAimed m Beyond = true
+wellAimed m (To p) = isPosition p && not (eqb p (m .place))
+wellAimed m (Along going) = eqb going cw || eqb going ccw
+
+-- The course to the place some pulses from a place is well formed.
+pub course-aimed : (m : Motor) (going p n : ℕ) → wellAimed m (courseTo m going p n) ≡ true
+unfolding courseTo
+course-aimed m going p n = go (eqb (moved going p n) (m .place)) refl (isPosition (moved going p n)) refl
+  where
+    go : (t : Bool) → eqb (moved going p n) (m .place) ≡ t → (u : Bool) → isPosition (moved going p n) ≡ u
+        → wellAimed m (cond t Stay (cond u (To (moved going p n)) Beyond)) ≡ true
+    go true e u f = refl
+    go false e true f = rw (f, e)
+    go false e false f = refl
+
+-- What nothing keeps from leaving has A = 1, no active enabled switch ahead, and room.
+pub nothing-hinders :
+    (m : Motor) (going : ℕ) → hindrance m going ≡ Done
+    → (eqb (m .setup .a) 0 ≡ false) × (blocked going m ≡ false) × (eqb (room going m) 0 ≡ false)
+unfolding hindrance
+nothing-hinders m going = go (eqb (m .setup .a) 0) (blocked going m) (eqb (room going m) 0)
+  where
+    go : (a b r : Bool) → cond a Disabled (cond b SwitchAhead (cond r NoRoom Done)) ≡ Done → (a ≡ false) × (b ≡ false) × (r ≡ false)
+    go true b r e = (cc, cc, cc)
+    go false true r e = (refl, cc, cc)
+    go false false true e = (refl, refl, cc)
+    go false false false e = (refl, refl, refl)
+
+-- The selected speed of a sound motor is a speed.
+pub selected-bounds : (m : Motor) → InRange m → (1 ≤ selectedSpeed m) × (selectedSpeed m ≤ 5000000)
+unfolding speedNumbered
+selected-bounds m r = go (eqb (m .speeds .selected) 0) (eqb (m .speeds .selected) 1)
+  where
+    b : Bounds m
+    b = range-bounds m r
+
+    go : (t u : Bool) → (1 ≤ cond t (m .speeds .low) (cond u (m .speeds .middle) (m .speeds .high))) × (cond t (m .speeds .low) (cond u (m .speeds .middle) (m .speeds .high)) ≤ 5000000)
+    go true u = b .low
+    go false true = b .middle
+    go false false = b .high
+
+-- An accepted start leaves a sound motor.
+launched-sound :
+    (m : Motor) (going kind target : ℕ) → InRange m → hindrance m going ≡ Done → 1 ≤ going → going ≤ 2 → kind ≤ 1
+    → isPosition target ≡ true → aimRight (launched m going kind target) ≡ true → soundMotor (launched m going kind target) ≡ true
+unfolding room edge blocked
+launched-sound m going kind target r h low high k t a =
+    let n = nothing-hinders m going h in
+    let v = selected-bounds m r in
+    let drive = bounds-drive (launched m going kind target .drive) high k (omega arith) t in
+    let ready : m .setup .a ≡ 1 = omega (arith, eqb-false (m .setup .a) 0 (n .0), range-bounds m r .setup) in
+    let leeway : 1 ≤ room going m = omega (arith, eqb-false (room going m) 0 (n .2)) in
+    driving-sound (launched m going kind target) (search) (search) (rw (ne-eqb going 0 (omega arith)))
+
+-- Another place lies ahead in the direction towards it, which is CW or CCW.
+pub towards-ahead :
+    (m : Motor) (p : ℕ) → eqb p (m .place) ≡ false → (1 ≤ towards m p) × (towards m p ≤ 2) × (1 ≤ ahead (towards m p) (m .place) p)
+unfolding towards
+towards-ahead m p e = go (ltb (m .place) p) refl
+  where
+    apart : p ≡ m .place → ⊥
+    apart = eqb-false p (m .place) e
+
+    go : (t : Bool) → ltb (m .place) p ≡ t → (1 ≤ cond t cw ccw) × (cond t cw ccw ≤ 2) × (1 ≤ ahead (cond t cw ccw) (m .place) p)
+    go true t = omega (arith, ltb-true (m .place) p t)
+    go false t = omega (arith, apart, ltb-false (m .place) p t)
+
+two-ways : (going : ℕ) → (eqb going cw || eqb going ccw) ≡ true → (1 ≤ going) × (going ≤ 2)
+two-ways going = go (eqb going cw) refl (eqb going ccw) refl
+  where
+    go : (t : Bool) → eqb going cw ≡ t → (u : Bool) → eqb going ccw ≡ u → (t || u) ≡ true → (1 ≤ going) × (going ≤ 2)
+    go true t u f e = omega (arith, eqb-true going cw t)
+    go false t true u e = omega (arith, eqb-true going ccw u)
+    go false t false u e = absurd (false≢true e)
+
+pub started-sound :
+    (m : Motor) (c : Course) → soundMotor m ≡ true → judgeStart m c ≡ Done → wellAimed m c ≡ true → soundMotor (started m c) ≡ true
+unfolding started judgeStart aimRight
+started-sound m Stay s h a = s
+started-sound m Beyond s h a = s
+started-sound m (To p) s h a =
+    let t = towards-ahead m p (not-true _ (and-r (isPosition p) _ a)) in
+    launched-sound m (towards m p) 1 p (sound-parts m s .range) h (t .0) (t .1) (omega arith) (and-l _ _ a) (le-leb 1 _ (t .2))
+started-sound m (Along going) s h a =
+    let t = two-ways going a in
+    launched-sound m going 0 origin (sound-parts m s .range) h (t .0) (t .1) (omega arith) refl refl
+
+-- A setting of a stopped motor leaves a sound motor: a position, the limits, the speeds, the SETLS byte and the SETMT
+-- digits, each in its range.
+pub place-set-sound :
+    (m : Motor) (p : ℕ) → isPosition p ≡ true → driving m ≡ false → soundMotor m ≡ true → soundMotor (withPlace m p) ≡ true
+place-set-sound m p h d s =
+    let r = sound-parts m s .range in
+    standing-sound (withPlace m p) (search) (sound-standing m s d)
+
+pub limits-set-sound :
+    (m : Motor) (l : Limits) → limitsInRange l ≡ true → driving m ≡ false → soundMotor m ≡ true → soundMotor (withLimits m l) ≡ true
+limits-set-sound m l h d s =
+    let r = sound-parts m s .range in
+    standing-sound (withLimits m l) (search) (sound-standing m s d)
+
+pub speeds-set-sound :
+    (m : Motor) (v : Speeds) → speedsInRange v ≡ true → driving m ≡ false → soundMotor m ≡ true → soundMotor (withSpeeds m v) ≡ true
+speeds-set-sound m v h d s =
+    let r = sound-parts m s .range in
+    standing-sound (withSpeeds m v) (search) (sound-standing m s d)
+
+pub wiring-set-sound :
+    (m : Motor) (w : Wiring) → wiringInRange w ≡ true → driving m ≡ false → soundMotor m ≡ true → soundMotor (withWiring m w) ≡ true
+wiring-set-sound m w h d s =
+    let r = sound-parts m s .range in
+    standing-sound (withWiring m w) (search) (sound-standing m s d)
+
+pub setup-set-sound :
+    (m : Motor) (u : Setup) → setupInRange u ≡ true → driving m ≡ false → soundMotor m ≡ true → soundMotor (withSetup m u) ≡ true
+setup-set-sound m u h d s =
+    let r = sound-parts m s .range in
+    standing-sound (withSetup m u) (search) (sound-standing m s d)

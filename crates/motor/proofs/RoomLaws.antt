@@ -1,0 +1,91 @@
+-- Laws of places and rooms, each said once over the direction. Assumes nothing.
+use mathlib.Core.Path.{_≡_, refl}
+use mathlib.Core.Bool.{Bool, true, false, cond}
+use Prim.Native.Nat.{ℕ, _+_, _-_, _≤_, _<_, min, max}
+use native.Mathlib.Omega.{arith}
+use lib.Dec.{eqb}
+use Rattle.digits.specs.Places.{lowest, highest, isPosition, moved, ahead, cw}
+use Rattle.record.specs.declared.Motor.{Motor}
+use Rattle.record.specs.Record.{withPlace}
+use Rattle.motor.specs.Switches.{digital, edge, room}
+use Rattle.motor.specs.Sound.{limitsInRange}
+use Rattle.motor.proofs.SoundLaws.{and-l, and-r, InRange, position-bounds, bounds-position}
+
+-- No pulse leaves a motor where it is, and a pulses and then b are a + b.
+pub moved-none : (going p : ℕ) → moved going p 0 ≡ p
+moved-none going p = go (eqb going cw)
+  where
+    go : (t : Bool) → cond t (p + 0) (p - 0) ≡ p
+    go true = omega arith
+    go false = omega arith
+
+pub moved-twice : (going p a b : ℕ) → moved going (moved going p a) b ≡ moved going p (a + b)
+moved-twice going p a b = go (eqb going cw)
+  where
+    go : (t : Bool) → cond t (cond t (p + a) (p - a) + b) (cond t (p + a) (p - a) - b) ≡ cond t (p + (a + b)) (p - (a + b))
+    go true = omega arith
+    go false = omega arith
+
+-- n pulses on, a place lies n pulses less ahead.
+pub ahead-moved : (going p q n : ℕ) → ahead going (moved going p n) q ≡ ahead going p q - n
+ahead-moved going p q n = go (eqb going cw)
+  where
+    go : (t : Bool) → cond t (q - cond t (p + n) (p - n)) (cond t (p + n) (p - n) - q) ≡ cond t (q - p) (p - q) - n
+    go true = omega arith
+    go false = omega arith
+
+-- As many pulses as a place lies ahead lead there.
+pub moved-ahead : (going p q : ℕ) → 1 ≤ ahead going p q → moved going p (ahead going p q) ≡ q
+moved-ahead going p q = go (eqb going cw)
+  where
+    go : (t : Bool) → 1 ≤ cond t (q - p) (p - q) → cond t (p + cond t (q - p) (p - q)) (p - cond t (q - p) (p - q)) ≡ q
+    go true h = omega arith
+    go false h = omega arith
+
+-- n pulses on, a motor has n pulses less of room.
+pub room-moved :
+    (going : ℕ) (m : Motor) (n : ℕ) → room going (withPlace m (moved going (m .place) n)) ≡ room going m - n
+unfolding room edge
+room-moved going m n = ahead-moved going (m .place) (edge going m) n
+
+-- The edge of a motor with its fields in range is a position.
+either-position : (t : Bool) (p q : ℕ) → isPosition p ≡ true → isPosition q ≡ true → isPosition (cond t p q) ≡ true
+either-position true p q ep eq = ep
+either-position false p q ep eq = eq
+
+capped-position : (p : ℕ) → isPosition p ≡ true → (isPosition (min highest p) ≡ true) × (isPosition (max lowest p) ≡ true)
+capped-position p e =
+    let b = position-bounds p e in
+    (bounds-position (min highest p) (omega arith) (omega arith), bounds-position (max lowest p) (omega arith) (omega arith))
+
+pub edge-position : (going : ℕ) (m : Motor) → InRange m → isPosition (edge going m) ≡ true
+unfolding edge limitsInRange
+edge-position going m r =
+    let c = capped-position (m .limits .cw) (search (and-l, and-r)) in
+    let d = capped-position (m .limits .ccw) (search (and-l, and-r)) in
+    either-position (eqb going cw) _ _
+    (either-position (digital (m .wiring)) _ highest (search) refl) (either-position (digital (m .wiring)) _ lowest (search) refl)
+
+-- "Position moves by them": n pulses on, no further than a position q that lies ahead, is a position.
+pub moved-position :
+    (going p q n : ℕ) → isPosition p ≡ true → isPosition q ≡ true → n ≤ ahead going p q → isPosition (moved going p n) ≡ true
+moved-position going p q n ep eq = go (eqb going cw)
+  where
+    go : (t : Bool) → n ≤ cond t (q - p) (p - q) → isPosition (cond t (p + n) (p - n)) ≡ true
+    go true h = bounds-position (p + n) (omega (arith, position-bounds p ep)) (omega (arith, position-bounds p ep, position-bounds q eq))
+    go false h = bounds-position (p - n) (omega (arith, position-bounds p ep, position-bounds q eq)) (omega (arith, position-bounds p ep))
+
+-- Within its room a motor stays on positions.
+pub room-position :
+    (going : ℕ) (m : Motor) (n : ℕ) → InRange m → n ≤ room going m → isPosition (moved going (m .place) n) ≡ true
+unfolding room
+room-position going m n r h = moved-position going (m .place) (edge going m) n (r .place) (edge-position going m r) h
+
+-- Room is less than the positions' range.
+pub room-bound : (going : ℕ) (m : Motor) → InRange m → room going m < 4294967295
+unfolding room
+room-bound going m r = go (eqb going cw)
+  where
+    go : (t : Bool) → cond t (edge going m - m .place) (m .place - edge going m) < 4294967295
+    go true = omega (arith, position-bounds (m .place) (r .place), position-bounds (edge going m) (edge-position going m r))
+    go false = omega (arith, position-bounds (m .place) (r .place), position-bounds (edge going m) (edge-position going m r))
