@@ -7,7 +7,7 @@ use Rattle.digits.specs.Bytes.{part, put, pieces, every, gather, allZero
 use Rattle.digits.specs.Words.{word, wordBytes, withBit, withoutBit}
 use Rattle.digits.specs.Places.{origin, placeOf, wordOf, countOf, cw, ccw}
 use Rattle.digits.specs.Text.{bytes, decimal, signedDecimal, hexByte, hexValue, isHex, valueOf, digitsAtFront}
-use Rattle.digits.specs.Text.{numberAtFront, signByte, distance}
+use Rattle.digits.specs.Text.{numberAtFront, notBelow, signByte, distance}
 use Rattle.digits.specs.declared.decimal.Number.the-variants.{Nothing, Read}
 use Rattle.digits.specs.Computing.{computing-digits}
 
@@ -48,8 +48,8 @@ numbers = (refl, refl, refl, refl, refl)
 -- the sign and the distance from position 0, on either side
 sides :
     (signByte origin ≡ 43) × (signByte 1 ≡ 45) × (distance origin ≡ 0) × (distance 1 ≡ 2147483647)
-    × (distance (origin + 3) ≡ 3)
-sides = (refl, refl, refl, refl, refl)
+    × (distance (origin + 3) ≡ 3) × (notBelow 2147483647 ≡ false) × (notBelow origin ≡ true)
+sides = (refl, refl, refl, refl, refl, refl, refl)
 
 -- what is written stands where it was put, and the rest as it was
 buffers :

@@ -95,13 +95,17 @@ numberAtFront s =
     let n = digitsAtFront s in
     cond (leb 1 n && leb n 10) (Read (valueOf (take n s)) n) Nothing
 
+-- the position of a place is not below 0
+abbrev pub notBelow : ℕ → Bool
+notBelow p = leb origin p
+
 -- "a sign (+ for 0)": the byte of the sign of a place
 abbrev pub signByte : ℕ → ℕ
-signByte p = cond (leb origin p) (code "+") (code "-")
+signByte p = cond (notBelow p) (code "+") (code "-")
 
--- how far a place lies from the origin, on either side
+-- how far a place lies from position 0, on either side
 abbrev pub distance : ℕ → ℕ
-distance p = cond (leb origin p) (p - origin) (origin - p)
+distance p = cond (notBelow p) (p - origin) (origin - p)
 
 -- what a writer leaves: the text at the front of the buffer, every other byte as it was, and the length of the text as its answer
 pub record Wrote (before after text : List ℕ) (r : ℕ) : Type 0 where

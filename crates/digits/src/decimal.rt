@@ -1,7 +1,7 @@
 // Numbers in decimal: read off a text, and written into the part of a buffer that the caller lends.
 ghost use mathlib.Core.Path.{_≡_};
 ghost use mathlib.Core.Bool.{cond};
-ghost use Prim.Native.Nat.{_+_, _-_, _%_, _≤_, max};
+ghost use Prim.Native.Nat.{_+_, _%_, _≤_, max};
 ghost use lib.ListN.{length, drop};
 ghost use Rattle.digits.specs.Bytes.{part, put};
 ghost use Rattle.digits.specs.Text.{isDigit, digitValue, digitByte, digitsAtFront, valueOf, numberAtFront};
@@ -26,7 +26,7 @@ pub fn digit_value(b: u8) -> u64
     if b < b'0' { 0 } else { (b - b'0') as u64 }
 }
 
-pub fn digit_byte(n: u32) -> u8
+fn digit_byte(n: u32) -> u8
     ensures { λ r. ⌜ r ≡ digitByte (n % 10) ⌝ }
 {
     b'0' + (n % 10) as u8
@@ -77,7 +77,7 @@ pub fn number_at(s: &[u8], at: usize) -> Number
 }
 
 fn one_if(t: bool) -> usize
-    ensures { λ r. ⌜ r ≡ cond t 1 0 ⌝ }
+    ensures { λ r. ⌜ (r ≡ cond t 1 0) × (r ≤ 1) ⌝ }
 {
     if t { 1 } else { 0 }
 }

@@ -1,14 +1,15 @@
--- `digits::decimal::digit_count` meets its contract. The invariant: one, and one more for each power tried that is not above n. Assumes nothing.
+-- `digits::decimal::digit_count` meets its contract. The invariant: one, and one more for each power
+-- tried that is not above n. Assumes nothing.
 use mathlib.Core.Bool.{cond}
 use lib.Dec.{leb}
 use borrow.Author.Needs.{needs}
 use native.Mathlib.Omega.{arith}
 use mathlib.Core.Path.{_≡_, refl}
-use Prim.Native.Nat.{suc, _+_, _-_, _*_, _^_, _≤_}
+use Prim.Native.Nat.{suc, _-_, _^_, _≤_}
 use native.Mathlib.Nat.{pow-succ', pow-le-pow-right}
 use native.Mathlib.Numerals.{add-one}
 use Rattle.digits.specs.Text.{powersUpTo, digitCount}
-use Rattle.digits.proofs.TextLaws.{powers-more, powers-within, one-small}
+use Rattle.digits.proofs.TextLaws.{powers-more, powers-within}
 use Rattle.digits.proofs.decimal.digit_count.Statement.{statement}
 use Rattle.digits.proofs.decimal.digit_count.Tie as tie
 
@@ -29,7 +30,7 @@ add-count : tie.Need-add-count Inv-loop μ-loop
 add-count c =
     let l = c .before .before .loop in
     let n = c .before .before .before .args .n in
-    omega (arith, powers-within (l .k) n, one-small (leb (l .power) n))
+    omega (arith, powers-within (l .k) n)
 
 mul-power : tie.Need-mul-power Inv-loop μ-loop
 mul-power c = omega (arith, pow-le-pow-right {n = 10} (omega arith) {i = suc (c .before .before .loop .k)} {j = 9} (omega arith))
@@ -44,7 +45,7 @@ loop-again : tie.Need-loop-again Inv-loop μ-loop
 loop-again c =
     let l = c .before .before .loop in
     let n = c .before .before .before .args .n in
-    let e : c .one-if .result ≡ cond (leb (10 ^ suc (l .k)) n) 1 0 = rw (← l .inv .1) (c .one-if .ensures) in
+    let e : c .one-if .result ≡ cond (leb (10 ^ suc (l .k)) n) 1 0 = rw (← l .inv .1) (c .one-if .ensures .0) in
     (omega arith, rw (add-one (l .k)) (omega (arith, pow-succ' 10 (suc (l .k)))), omega (arith, e, powers-more (l .k) n))
 
 returns : tie.Need-returns Inv-loop μ-loop

@@ -1,4 +1,5 @@
--- `digits::decimal::digits_at` meets its contract. The invariant: the digits passed, and those that stand from there on, are all. Assumes nothing.
+-- `digits::decimal::digits_at` meets its contract. The invariant: the digits passed, and those that stand from
+-- there on, are all. Assumes nothing.
 use denote.Ref.{now}
 use borrow.Author.Needs.{needs}
 use native.Mathlib.Omega.{arith}

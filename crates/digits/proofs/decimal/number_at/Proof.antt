@@ -5,7 +5,7 @@ use denote.Ref.{now}
 use native.Mathlib.Omega.{arith}
 use Rattle.digits.specs.Bytes.{part}
 use Rattle.digits.specs.Text.{numberAtFront}
-use Rattle.digits.proofs.TextLaws.{one-to-ten, digits-within}
+use Rattle.digits.proofs.TextLaws.{between, digits-within}
 use borrow.Author.Needs.{needs}
 use Rattle.digits.proofs.decimal.number_at.Statement.{statement}
 use Rattle.digits.proofs.decimal.number_at.Tie as tie
@@ -18,7 +18,7 @@ value-at-requires c κs =
     let n = c .before .digits-at .result in
     let s = now (c .before .before .before .args .s) in
     let at = c .before .before .before .args .at in
-    let w : (1 ≤ n) × (n ≤ 10) = one-to-ten n (c .if1 .taken) in
+    let w : (1 ≤ n) × (n ≤ 10) = between 1 10 n (c .if1 .taken) in
     (omega (arith, w .0, digits-within (drop at s), length-drop at s, c .before .digits-at .ensures), w .1)
 
 returns : tie.Need-returns

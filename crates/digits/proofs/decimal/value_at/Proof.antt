@@ -1,5 +1,6 @@
--- `digits::decimal::value_at` meets its contract. The invariant: what is gathered, carried on through the bytes that are left, is the whole; and i bytes
--- are worth at most 23 * 10 ^ i - 23, for a byte is worth at most 207. Assumes nothing.
+-- `digits::decimal::value_at` meets its contract. The invariant: what is gathered, carried on through the
+-- bytes that are left, is the whole; and i bytes are worth at most 23 * 10 ^ i - 23, for a byte is worth at most 207.
+-- Assumes nothing.
 use denote.Ref.{now}
 use borrow.Author.Needs.{needs}
 use native.Mathlib.Omega.{arith}
@@ -55,7 +56,8 @@ loop-again c =
     let a = c .before .before .before .before .before .args in (
       omega arith,
       rw (add-one (l .i), pow-suc 10 (l .i)) (omega (arith, c .before .shared-slice-known2 .given (a .at + l .i))),
-      rw (c .digit-value .ensures, ← value-more (now (a .s)) (l .v) (a .at) (a .n) (l .i) (omega arith) (omega arith)) (l .inv .2),
+      rw (c .digit-value .ensures)
+          (sym (value-more (now (a .s)) (l .v) (a .at) (a .n) (l .i) (omega arith) (omega arith)) ∙ l .inv .2),
     )
 
 returns : tie.Need-returns Inv-loop μ-loop

@@ -1,4 +1,5 @@
--- `digits::decimal::write_digits` meets its contract. The invariant: the digits after place i are put, and what is left of n is to be written before them. Assumes nothing.
+-- `digits::decimal::write_digits` meets its contract. The invariant: the digits from place i on are put, and what is
+-- left of n is to be written before them. Assumes nothing.
 use denote.Ref.{now}
 use borrow.Author.Needs.{needs}
 use native.Mathlib.Omega.{arith}
@@ -8,7 +9,8 @@ use Prim.Native.Nat.{suc, _-_, _/_, _^_, _≤_}
 use lib.ListN.{length, length-set}
 use Rattle.digits.specs.Bytes.{put}
 use Rattle.digits.specs.Text.{lastDigits}
-use Rattle.digits.proofs.TextLaws.{put-none, quotient-more, written-more}
+use Rattle.digits.proofs.PutLaws.{put-none}
+use Rattle.digits.proofs.TextLaws.{quotient-more, written-more}
 use Rattle.digits.proofs.decimal.write_digits.Statement.{statement}
 use Rattle.digits.proofs.decimal.write_digits.Tie as tie
 

@@ -3,7 +3,7 @@ use mathlib.Core.Path.{_≡_}
 use Prim.Native.Nat.{_/_, _%_}
 use native.Mathlib.Omega.{arith}
 use Rattle.digits.specs.Text.{hexByte}
-use Rattle.digits.proofs.TextLaws.{put-two}
+use Rattle.digits.proofs.PutLaws.{put-two}
 use borrow.Author.Needs.{needs}
 use Rattle.digits.proofs.hex.write_hex.Statement.{statement}
 use Rattle.digits.proofs.hex.write_hex.Tie as tie
