@@ -6,8 +6,8 @@ use Prim.Native.Nat.{ℕ, suc, _+_, _-_, _<_, _≤_}
 use native.Mathlib.Nat.{suc-add, add-suc, add-zero, zero-add, add-assoc}
 use native.Mathlib.Numerals.{add-one, one-add}
 use native.Mathlib.Omega.{arith}
-use lib.ListN.{length, take, drop, getD, set, length-take, length-drop, take-append-drop}
-use lib.Seq.{take-suc, set-at, take-add, take-take, drop-drop, drop-append-le}
+use lib.ListN.{length, take, drop, getD, set, length-append, length-take, length-drop, take-append-drop}
+use lib.Seq.{take-suc, set-at, take-add, take-take, drop-drop, drop-append-le, take-at, drop-at}
 use Rattle.digits.specs.Bytes.{put}
 
 -- nothing is put
@@ -27,6 +27,17 @@ pub put-front : (t b : List ℕ) (v : ℕ) → 0 < length t → put (set t 0 v) 
 unfolding put
 put-front [] b v h = absurd (omega arith)
 put-front (x ∷ t) b v h = rw (one-add, zero-add)
+
+-- a text put right after another
+pub put-after : (t x y : List ℕ) (a : ℕ) → a + length x ≤ length t → put (put t a x) (a + length x) y ≡ put t a (x ++ y)
+unfolding put
+put-after t x y a h =
+    let n = a + length x in
+    let p = take a t ++ x in
+    let e : length p ≡ n = rw (length-append, length-take) (omega arith) in
+    let tail : drop (n + length y) (p ++ drop n t) ≡ drop (n + length y) t =
+    rw (← drop-drop (length y) n (p ++ drop n t), drop-at p (drop n t) n e, drop-drop) in
+    rw (← append-assoc (take a t) x (drop n t), take-at p (drop n t) n e, tail, length-append, add-assoc) (simp append-assoc)
 
 -- two bytes written one after the other at the front
 pub put-two : (t : List ℕ) (a b : ℕ) → 2 ≤ length t → set (set t 0 a) 1 b ≡ put t 0 (a ∷ b ∷ [])
