@@ -127,19 +127,22 @@ pub fn write_decimal(out: &mut [u8], least: usize, n: u32) -> usize
     k
 }
 
+// The place of position 0.
+const ZERO: u32 = 2147483648;
+
 fn sign_of(place: u32) -> u8
     ensures { λ r. ⌜ r ≡ signByte place ⌝ }
 {
-    if 2147483648 <= place { b'+' } else { b'-' }
+    if ZERO <= place { b'+' } else { b'-' }
 }
 
 fn distance_of(place: u32) -> u32
     ensures { λ r. ⌜ r ≡ distance place ⌝ }
 {
-    if 2147483648 <= place {
-        place - 2147483648
+    if ZERO <= place {
+        place - ZERO
     } else {
-        2147483648 - place
+        ZERO - place
     }
 }
 
