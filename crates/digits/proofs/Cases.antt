@@ -7,6 +7,8 @@ use Rattle.digits.specs.Bytes.{part, put, pieces, every, gather, allZero
 use Rattle.digits.specs.Words.{word, wordBytes, withBit, withoutBit}
 use Rattle.digits.specs.Places.{origin, placeOf, wordOf, countOf, cw, ccw}
 use Rattle.digits.specs.Text.{bytes, decimal, signedDecimal, hexByte, hexValue, isHex, valueOf, digitsAtFront}
+use Rattle.digits.specs.Text.{numberAtFront, signByte, distance}
+use Rattle.digits.specs.declared.decimal.Number.the-variants.{Nothing, Read}
 use Rattle.digits.specs.Computing.{computing-digits}
 
 -- -1 is FF FF FF FF and stands one below the origin; the lowest bytes come first
@@ -35,6 +37,19 @@ reads :
     × (isHex 71 ≡ false) × (isHex 97 ≡ false) × (isHex 57 ≡ true)
 unfolding computing-digits
 reads = (refl, refl, refl, refl, refl, refl)
+
+-- "d: 1 to 10 digits": none are no number and eleven are none, ten are one, and what follows the digits is left
+numbers :
+    (numberAtFront (bytes "-5") ≡ Nothing) × (numberAtFront (bytes "") ≡ Nothing) × (numberAtFront (bytes "00000000012") ≡ Nothing)
+    × (numberAtFront (bytes "9999999999") ≡ Read 9999999999 10) × (numberAtFront (bytes "007?") ≡ Read 7 3)
+unfolding computing-digits
+numbers = (refl, refl, refl, refl, refl)
+
+-- the sign and the distance from position 0, on either side
+sides :
+    (signByte origin ≡ 43) × (signByte 1 ≡ 45) × (distance origin ≡ 0) × (distance 1 ≡ 2147483647)
+    × (distance (origin + 3) ≡ 3) × (signByte 2147483647 ≡ 45)
+sides = (refl, refl, refl, refl, refl, refl)
 
 -- what is written stands where it was put, and the rest as it was
 buffers :

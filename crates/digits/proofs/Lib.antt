@@ -1,4 +1,6 @@
 pub mod Cases
 pub mod WordLaws
-pub mod BufferLaws
+pub mod PartLaws
 pub mod Signed
+pub mod PutLaws
+pub mod TextLaws

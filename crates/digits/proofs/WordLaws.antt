@@ -10,7 +10,7 @@ use lib.Dec.{eqb}
 use borrow.Author.Tests.{eqb-true, eqb-false, eq-eqb, ne-eqb}
 use Rattle.digits.specs.Bytes.{part, allZero}
 use Rattle.digits.specs.Words.{word, wordBytes}
-use Rattle.digits.proofs.BufferLaws.{part-add, part-length, zero-append}
+use Rattle.digits.proofs.PartLaws.{part-add, part-length, zero-append}
 
 -- A number that fits w bytes is read back from the w bytes that it is written in.
 pub word-bytes : (w n : ℕ) → n < 256 ^ w → word (wordBytes w n) ≡ n

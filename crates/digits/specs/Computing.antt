@@ -3,8 +3,8 @@
 use Rattle.digits.specs.Bytes.{part, put, joined, pieces, every, gather, allZero}
 use Rattle.digits.specs.Words.{word, wordBytes, withBit, withoutBit}
 use Rattle.digits.specs.Places.{placeOf, wordOf, countOf}
-use Rattle.digits.specs.Text.{bytes, same, digitsAtFront, valueFrom, hexValue, lastDigits, powersUpTo, digitCount, decimal, signedDecimal, hexDigit, hexByte}
+use Rattle.digits.specs.Text.{bytes, same, digitsAtFront, valueFrom, hexValue, lastDigits, powersUpTo, digitCount, decimal, signedDecimal, hexDigit, hexByte, numberAtFront}
 
 unfoldable pub computing-digits : Unit {0}
-unfolding part put joined pieces every gather allZero word wordBytes withBit withoutBit placeOf wordOf countOf bytes same digitsAtFront valueFrom hexValue lastDigits powersUpTo digitCount decimal signedDecimal hexDigit hexByte
+unfolding part put joined pieces every gather allZero word wordBytes withBit withoutBit placeOf wordOf countOf bytes same digitsAtFront valueFrom hexValue lastDigits powersUpTo digitCount decimal signedDecimal hexDigit hexByte numberAtFront
 computing-digits = tt

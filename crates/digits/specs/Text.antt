@@ -2,10 +2,15 @@
 use Prim.Native.Nat.{ℕ, zero, suc, _+_, _*_, _-_, _/_, _%_, _^_, max}
 use Prim.Native.String as S
 use Prim.Native.Char.{code}
+use mathlib.Core.Path.{_≡_}
 use mathlib.Core.List.{List, [], _∷_, _++_}
 use mathlib.Core.Bool.{Bool, true, false, _&&_, _||_, cond}
 use lib.Dec.{leb, ltb, eqb}
-use Rattle.digits.specs.Places.{origin, ahead, cw, ccw}
+use lib.ListN.{length, take}
+use Rattle.digits.specs.Places.{origin}
+use Rattle.digits.specs.Bytes.{put}
+use Rattle.digits.specs.declared.decimal.Number.{Number}
+use Rattle.digits.specs.declared.decimal.Number.the-variants.{Nothing, Read}
 
 -- the bytes of a quoted text
 unfoldable pub bytes : S.String → List ℕ
@@ -71,10 +76,17 @@ digitCount n = suc (powersUpTo 9 n)
 unfoldable pub decimal : ℕ → ℕ → List ℕ
 decimal k n = lastDigits (max k (digitCount n)) n
 
+-- "a sign (+ for 0)": that of the position of a place
+abbrev pub signByte : ℕ → ℕ
+signByte p = cond (leb origin p) (code "+") (code "-")
+
+-- how far a place lies from position 0, on either side
+abbrev pub distance : ℕ → ℕ
+distance p = cond (leb origin p) (p - origin) (origin - p)
+
 -- "a sign (+ for 0) and at least 7 digits": the position of a place, with at least k digits
 unfoldable pub signedDecimal : ℕ → ℕ → List ℕ
-signedDecimal k p =
-    cond (leb origin p) (code "+" ∷ decimal k (ahead cw origin p)) (code "-" ∷ decimal k (ahead ccw origin p))
+signedDecimal k p = signByte p ∷ decimal k (distance p)
 
 -- "Hex is in capitals": the digit of a number below 16
 unfoldable pub hexDigit : ℕ → ℕ
@@ -83,3 +95,14 @@ hexDigit n = cond (ltb n 10) (digitByte n) (code "A" + (n - 10))
 -- "two hex digits": those of a byte
 unfoldable pub hexByte : ℕ → List ℕ
 hexByte n = hexDigit (n / 16) ∷ hexDigit (n % 16) ∷ []
+
+-- "d: 1 to 10 digits", as many as stand there: the number at the front of a text, with how many digits it has
+unfoldable pub numberAtFront : List ℕ → Number
+numberAtFront s =
+    let n = digitsAtFront s in
+    cond (leb 1 n && leb n 10) (Read (valueOf (take n s)) n) Nothing
+
+-- what a writer leaves: the text at the front of the buffer, every other byte as it was, and the length of the text as its answer
+pub record Wrote (before after text : List ℕ) (r : ℕ) : Type 0 where
+  pub count : r ≡ length text
+  pub buffer : after ≡ put before 0 text

@@ -10,7 +10,7 @@ use lib.Seq.{getD-take, getD-drop}
 use Rattle.digits.specs.Bytes.{part, joined, allZero}
 use Rattle.digits.specs.Words.{word, wordBytes}
 use Rattle.digits.specs.Places.{placeOf, wordOf}
-use Rattle.digits.proofs.BufferLaws.{part-length, part-add, part-bytes, part-one, zero-bytes, part-whole, cut-joined}
+use Rattle.digits.proofs.PartLaws.{part-length, part-add, part-bytes, part-one, zero-bytes, part-whole, cut-joined}
 use Rattle.digits.proofs.WordLaws.{word-bytes, bytes-word, word-below}
 use Rattle.digits.proofs.Signed.{place-bytes, word-place}
 use Rattle.record.specs.declared.Motor.{Motor}

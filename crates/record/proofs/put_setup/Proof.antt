@@ -1,6 +1,6 @@
 use borrow.Author.Needs.{needs}
 use native.Mathlib.Omega.{arith}
-use Rattle.digits.proofs.BufferLaws.{stores-put}
+use Rattle.digits.proofs.PutLaws.{stores-put}
 use Rattle.record.specs.Record.{setupBytes}
 use Rattle.record.proofs.put_setup.Statement.{statement}
 use Rattle.record.proofs.put_setup.Tie as tie

@@ -3,7 +3,7 @@ use native.Mathlib.Omega.{arith}
 use mathlib.Core.List.{[], _∷_}
 use Rattle.digits.specs.Bytes.{joined}
 use Rattle.digits.specs.Words.{wordBytes}
-use Rattle.digits.proofs.BufferLaws.{lay-put}
+use Rattle.digits.proofs.PutLaws.{lay-put}
 use Rattle.record.proofs.put_zeros.Statement.{statement}
 use Rattle.record.proofs.put_zeros.Tie as tie
 

@@ -4,7 +4,7 @@ use mathlib.Core.List.{[], _∷_}
 use lib.ListN.{replicate}
 use Rattle.digits.specs.Bytes.{joined}
 use Rattle.digits.specs.Words.{wordBytes}
-use Rattle.digits.proofs.BufferLaws.{lay-put, put-whole}
+use Rattle.digits.proofs.PutLaws.{lay-put, put-whole}
 use Rattle.record.specs.Record.{settingBytes, driveBytes, recordOf}
 use Rattle.record.proofs.write_motor.Statement.{statement}
 use Rattle.record.proofs.write_motor.Tie as tie

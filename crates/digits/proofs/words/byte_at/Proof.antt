@@ -1,7 +1,7 @@
 use borrow.Author.Needs.{needs}
 use native.Mathlib.Omega.{arith}
 use Rattle.digits.specs.Words.{word}
-use Rattle.digits.proofs.BufferLaws.{part-one}
+use Rattle.digits.proofs.PartLaws.{part-one}
 use Rattle.digits.proofs.words.byte_at.Statement.{statement}
 use Rattle.digits.proofs.words.byte_at.Tie as tie
 

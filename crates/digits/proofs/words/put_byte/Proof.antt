@@ -1,7 +1,7 @@
 use borrow.Author.Needs.{needs}
 use native.Mathlib.Omega.{arith}
 use mathlib.Core.List.{[], _∷_}
-use Rattle.digits.proofs.BufferLaws.{stores-put}
+use Rattle.digits.proofs.PutLaws.{stores-put}
 use Rattle.digits.proofs.words.put_byte.Statement.{statement}
 use Rattle.digits.proofs.words.put_byte.Tie as tie
 

@@ -4,7 +4,7 @@ use Prim.Native.Nat.{suc, _+_}
 use mathlib.Core.Path.{_≡_}
 use lib.ListN.{length-set}
 use Rattle.digits.specs.Words.{wordBytes}
-use Rattle.digits.proofs.BufferLaws.{stores-put}
+use Rattle.digits.proofs.PutLaws.{stores-put}
 use Rattle.digits.proofs.words.put_short.Statement.{statement}
 use Rattle.digits.proofs.words.put_short.Tie as tie
 

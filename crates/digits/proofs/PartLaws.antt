@@ -1,4 +1,4 @@
--- Laws of what is read from a buffer and written to it. Assumes nothing.
+-- Laws of what is read from a buffer. Assumes nothing.
 use mathlib.Core.Path.{_≡_, refl, ap, sym, _∙_}
 use mathlib.Core.List.{List, [], _∷_, _++_, append-assoc, append-nil}
 use mathlib.Core.Bool.{true, _&&_, and-assoc, and-eq-true-iff}
@@ -26,45 +26,6 @@ part-add s at m n = take-add m n (drop at s) ∙ rw drop-drop
 pub part-one : (s : List ℕ) (at : ℕ) → at < length s → part s at 1 ≡ getD s at 0 ∷ []
 unfolding part
 part-one s at h = rw (drop-cons s at 0)
-
--- A run of stores, one byte after the other, is what is written at once.
-pub stores-put : (b s : List ℕ) (at : ℕ) → at + length b ≤ length s → sets s at b ≡ put s at b
-unfolding put
-stores-put b s at h = sets-eq b s at h ∙ append-assoc (take at s) b (drop (at + length b) s)
-
--- What is written keeps the buffer's length.
-pub put-length : (s : List ℕ) (at : ℕ) (b : List ℕ) → at + length b ≤ length s → length (put s at b) ≡ length s
-unfolding put
-put-length s at b h = simp (length-append, length-take, length-drop) (omega arith)
-
--- Two runs written one after the other are both written at once.
-pub put-next : (s : List ℕ) (at : ℕ) (a b : List ℕ) → at + length a + length b ≤ length s
-    → put (put s at a) (at + length a) b ≡ put s at (a ++ b)
-unfolding put
-put-next s at a b h =
-    let n = at + length a in
-    let front = take at s ++ a in
-    let f : length front ≡ n = simp (length-append, length-take) (omega arith) in
-    rw (← append-assoc (take at s) a (drop n s), take-at front (drop n s) n f, ← drop-drop (length b) n (front ++ drop n s), drop-at front (drop n s) n f, drop-drop (length b) n s)
-    (simp (append-assoc, length-append, add-assoc))
-
--- What is written over the whole buffer is all that it holds.
-pub put-whole : (s b : List ℕ) → length b ≡ length s → put s 0 b ≡ b
-unfolding put
-put-whole s b e = rw (zero-add, e, drop-length s, append-nil)
-
--- runs of bytes written one after the other, from a place on
-abbrev pub lay : List ℕ → ℕ → List (List ℕ) → List ℕ
-lay s at [] = s
-lay s at (b ∷ bs) = lay (put s at b) (at + length b) bs
-
-pub lay-put : (bs : List (List ℕ)) (s : List ℕ) (at : ℕ) → at + length (joined bs) ≤ length s → lay s at bs ≡ put s at (joined bs)
-unfolding joined
-lay-put [] s at h = unfold put in (rw (add-zero, take-append-drop))
-lay-put (b ∷ bs) s at h =
-    let n : length (b ++ joined bs) ≡ length b + length (joined bs) = length-append b (joined bs) in
-    let l : length (put s at b) ≡ length s = put-length s at b (omega arith) in
-    rw (lay-put bs (put s at b) (at + length b) (omega arith)) (put-next s at b (joined bs) (omega arith))
 
 -- parts of the widths given, one after the other from a place on
 abbrev pub cut : List ℕ → ℕ → List ℕ → List (List ℕ)

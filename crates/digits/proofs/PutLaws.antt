@@ -1,0 +1,85 @@
+-- What is written byte by byte, or into a part that was lent, as one `put` into the whole buffer.
+-- Assumes nothing.
+use mathlib.Core.Path.{_≡_, refl, sym, _∙_}
+use mathlib.Core.List.{List, [], _∷_, _++_, append-assoc, append-nil}
+use Prim.Native.Nat.{ℕ, suc, _+_, _-_, _<_, _≤_}
+use native.Mathlib.Nat.{suc-add, add-suc, add-zero, zero-add, add-assoc}
+use native.Mathlib.Numerals.{add-one, one-add}
+use native.Mathlib.Omega.{arith}
+use lib.ListN.{length, take, drop, getD, set, length-append, length-take, length-drop, take-append-drop}
+use lib.Seq.{drop-length, sets, sets-eq, take-suc, set-at, take-add, take-take, drop-drop, drop-append-le, take-at, drop-at}
+use Rattle.digits.specs.Bytes.{put, joined}
+
+-- nothing is put
+pub put-none : (t : List ℕ) (i : ℕ) → put t i [] ≡ t
+unfolding put
+put-none t i = rw add-zero (take-append-drop i t)
+
+-- a byte written before the bytes that are put already
+pub put-more : (t b : List ℕ) (i v : ℕ) → i < length t → set (put t (i + 1) b) i v ≡ put t i (v ∷ b)
+unfolding put
+put-more t b i v h =
+    let e : length (take i t) ≡ i = rw length-take (omega arith) in
+    rw (add-one i, take-suc t i 0 h, append-assoc, set-at (take i t) (getD t i 0) (b ++ drop (suc i + length b) t) v i e, suc-add, add-suc)
+
+-- a byte written at the front, and the rest put after it
+pub put-front : (t b : List ℕ) (v : ℕ) → 0 < length t → put (set t 0 v) 1 b ≡ put t 0 (v ∷ b)
+unfolding put
+put-front [] b v h = absurd (omega arith)
+put-front (x ∷ t) b v h = rw (one-add, zero-add)
+
+-- a text put right after another
+pub put-after : (t x y : List ℕ) (a : ℕ) → a + length x ≤ length t → put (put t a x) (a + length x) y ≡ put t a (x ++ y)
+unfolding put
+put-after t x y a h =
+    let n = a + length x in
+    let p = take a t ++ x in
+    let e : length p ≡ n = rw (length-append, length-take) (omega arith) in
+    let tail : drop (n + length y) (p ++ drop n t) ≡ drop (n + length y) t =
+    rw (← drop-drop (length y) n (p ++ drop n t), drop-at p (drop n t) n e, drop-drop) in
+    rw (← append-assoc (take a t) x (drop n t), take-at p (drop n t) n e, tail, length-append, add-assoc) (simp append-assoc)
+
+-- what is put into the k bytes that were lent from `a` on, with the part back in its place
+pub put-part : (t b : List ℕ) (a k i : ℕ) → a + k ≤ length t → i + length b ≤ k
+    → take a t ++ (put (take k (drop a t)) i b ++ drop k (drop a t)) ≡ put t (a + i) b
+unfolding put
+put-part t b a k i h l =
+    let m = take k (drop a t) in
+    let room : i + length b ≤ length m = rw (length-take, length-drop) (omega arith) in
+    let tail : drop (i + length b) m ++ drop k (drop a t) ≡ drop (a + i + length b) t =
+    sym (drop-append-le (i + length b) m (drop k (drop a t)) room)
+    ∙ rw (take-append-drop k (drop a t), drop-drop, add-assoc) in
+    rw (append-assoc, append-assoc, tail, take-take i k (drop a t) (omega arith), take-add a i t, append-assoc)
+
+-- the same where all the bytes from `a` on were lent
+pub put-rest : (t b : List ℕ) (a : ℕ) → a + length b ≤ length t
+    → take a t ++ (put (take (length t - a) (drop a t)) 0 b ++ drop (length t - a) (drop a t)) ≡ put t a b
+put-rest t b a h = rw (put-part t b a (length t - a) 0 (omega arith) (omega arith), add-zero)
+
+-- A run of stores, one byte after the other, is what is written at once.
+pub stores-put : (b s : List ℕ) (at : ℕ) → at + length b ≤ length s → sets s at b ≡ put s at b
+unfolding put
+stores-put b s at h = sets-eq b s at h ∙ append-assoc (take at s) b (drop (at + length b) s)
+
+-- What is written keeps the buffer's length.
+pub put-length : (s : List ℕ) (at : ℕ) (b : List ℕ) → at + length b ≤ length s → length (put s at b) ≡ length s
+unfolding put
+put-length s at b h = simp (length-append, length-take, length-drop) (omega arith)
+
+-- What is written over the whole buffer is all that it holds.
+pub put-whole : (s b : List ℕ) → length b ≡ length s → put s 0 b ≡ b
+unfolding put
+put-whole s b e = rw (zero-add, e, drop-length s, append-nil)
+
+-- runs of bytes written one after the other, from a place on
+abbrev pub lay : List ℕ → ℕ → List (List ℕ) → List ℕ
+lay s at [] = s
+lay s at (b ∷ bs) = lay (put s at b) (at + length b) bs
+
+pub lay-put : (bs : List (List ℕ)) (s : List ℕ) (at : ℕ) → at + length (joined bs) ≤ length s → lay s at bs ≡ put s at (joined bs)
+unfolding joined
+lay-put [] s at h = sym (put-none s at)
+lay-put (b ∷ bs) s at h =
+    let n : length (b ++ joined bs) ≡ length b + length (joined bs) = length-append b (joined bs) in
+    let l : length (put s at b) ≡ length s = put-length s at b (omega arith) in
+    rw (lay-put bs (put s at b) (at + length b) (omega arith)) (put-after s b (joined bs) at (omega arith))
