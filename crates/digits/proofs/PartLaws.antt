@@ -71,3 +71,21 @@ zero-bytes (b ∷ s) e =
     let both = and-eq-true-iff (eqb b 0) (allZero s) .0 e in
     let p : b ≡ 0 = eqb-true b 0 (both .0) in
     rw (p, ← zero-bytes s (both .1))
+
+-- Two runs of bytes, one after the other, are bytes.
+pub append-bytes : (a b : List ℕ) → ((k : ℕ) → getD a k 0 < 256) → ((k : ℕ) → getD b k 0 < 256) → (k : ℕ) → getD (a ++ b) k 0 < 256
+append-bytes [] b f g k = g k
+append-bytes (x ∷ a) b f g zero = f zero
+append-bytes (x ∷ a) b f g (suc k) = append-bytes a b (λ j. f (suc j)) g k
+
+pub cons-bytes : (x : ℕ) (s : List ℕ) → x < 256 → ((k : ℕ) → getD s k 0 < 256) → (k : ℕ) → getD (x ∷ s) k 0 < 256
+cons-bytes x s h f zero = h
+cons-bytes x s h f (suc k) = f k
+
+pub none-bytes : (k : ℕ) → getD [] k 0 < 256
+none-bytes k = omega arith
+
+pub zeros-bytes : (n k : ℕ) → getD (replicate n 0) k 0 < 256
+zeros-bytes zero k = none-bytes k
+zeros-bytes (suc n) zero = omega arith
+zeros-bytes (suc n) (suc k) = zeros-bytes n k

@@ -3,7 +3,7 @@
 use crate::choose;
 use crate::less;
 ghost use mathlib.Core.Path.{_≡_};
-ghost use Rattle.digits.specs.Places.{isPosition, placeOf, wordOf, moved, ahead};
+ghost use Rattle.digits.specs.Places.{isPosition, placeOf, wordOf, moved, ahead, countOf};
 
 // The directions of a drive.
 pub const CW: u8 = 1;
@@ -54,4 +54,11 @@ pub fn place_ahead(going: u8, p: u32, n: u32) -> u64
     } else {
         less(p, n) as u64
     }
+}
+
+// The signed count for n pulses given in a direction, as a word: CW positive.
+pub fn count_of(going: u8, n: u32) -> u32
+    ensures { λ r. ⌜ r ≡ countOf going n ⌝ }
+{
+    choose(going == CW, n, std::num::wrapping_sub_u32(0, n))
 }

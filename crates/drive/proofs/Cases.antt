@@ -9,14 +9,10 @@ use Rattle.record.specs.Record.{recordOf, freshMotor, withLimits, withSpeeds, w
 use Rattle.drive.specs.declared.Course.the-variants.{Stay, Beyond, To, Along}
 use Rattle.drive.specs.declared.Verdict.the-variants.{Done, OutOfRange, Disabled, SwitchAhead, NoRoom}
 use Rattle.drive.specs.Drives.{courseTo, judgeStart, started, stopped, speedChanged, switchRead, lsend}
-use Rattle.drive.specs.Ticks.{tickMotor}
+use Rattle.drive.specs.Ticks.{tickMotor, ticks}
 use Rattle.drive.specs.Computing.{computing-drive}
 
--- the motor after k ticks, and the pulses of each of them
-ticks : ℕ → Motor → Motor
-ticks zero m = m
-ticks (suc k) m = ticks k (tickMotor m .motor)
-
+-- the pulses of each of k ticks
 pulses : ℕ → Motor → List ℕ
 pulses zero m = []
 pulses (suc k) m = tickMotor m .pulses ∷ pulses k (tickMotor m .motor)
@@ -38,21 +34,21 @@ fraction-carried :
     (pulses 5 (started freshMotor (Along cw)) ≡ 0 ∷ 1 ∷ 1 ∷ 1 ∷ 1 ∷ [])
     × (pulses 5 (started freshMotor (Along ccw)) ≡ 0 ∷ 1 ∷ 1 ∷ 1 ∷ 1 ∷ [])
     × (ticks 5 (started freshMotor (Along ccw)) .place ≡ origin - 4)
-unfolding computing-drive ticks pulses
+unfolding computing-drive pulses
 fraction-carried = (refl, refl, refl)
 
 -- A stop drops the fraction: it zeroes bytes 32 to 43, and the next drive's first tick gives none.
 fraction-dropped :
     (part (recordOf (stopped 0x40 (ticks 1 (started freshMotor (Along cw))))) 31 13 ≡ 0x40 ∷ 0 ∷ 0 ∷ 0 ∷ 0 ∷ 0 ∷ 0 ∷ 0 ∷ 0 ∷ 0 ∷ 0 ∷ 0 ∷ 0 ∷ [])
     × (pulses 2 (started (stopped 0x40 (ticks 1 (started freshMotor (Along cw)))) (Along cw)) ≡ 0 ∷ 1 ∷ [])
-unfolding computing-drive ticks pulses
+unfolding computing-drive pulses
 fraction-dropped = (refl, refl)
 
 -- "SPC replaces the speed in force and keeps the fraction": after two ticks at 800 it is 600, and 400 more make one pulse.
 speed-change :
     (pulses 1 (speedChanged (ticks 2 (started freshMotor (Along cw))) 400) ≡ 1 ∷ [])
     × (ticks 1 (speedChanged (ticks 2 (started freshMotor (Along cw))) 400) .drive .fraction ≡ 0)
-unfolding computing-drive ticks pulses
+unfolding computing-drive pulses
 speed-change = (refl, refl)
 
 -- 5,000 pulses can fall in one tick: a target, a digital limit, and the nearer of the two end it there. The target counts
@@ -65,7 +61,7 @@ capped :
     × (ticks 1 (started (limited 5000000 3) (To (origin + 3))) .ended ≡ 0)
     × (ticks 1 (started (limited 5000000 3) (Along cw)) .ended ≡ lsend)
     × (ticks 1 (started (limited 5000000 3) (To (origin + 100))) .place ≡ origin + 3)
-unfolding computing-drive ticks pulses atSpeed limited
+unfolding computing-drive pulses atSpeed limited
 capped = (refl, refl, refl, refl, refl, refl, refl)
 
 -- A reading ends a drive only by the switch of its direction, with LSEND; HP and the other side end nothing.

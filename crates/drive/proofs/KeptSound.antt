@@ -21,7 +21,7 @@ use Rattle.drive.specs.declared.Ticked.{Ticked}
 use Rattle.drive.specs.declared.Course.{Course}
 use Rattle.drive.specs.declared.Course.the-variants.{Stay, Beyond, To, Along}
 use Rattle.drive.specs.declared.Verdict.the-variants.{Done, Disabled, SwitchAhead, NoRoom}
-use Rattle.drive.specs.Drives.{lsend, speedNumbered, selectedSpeed, courseTo, towards, hindrance, judgeStart, launched, started, endedWith, stopped, speedChanged, contacted, switchRead}
+use Rattle.drive.specs.Drives.{lsend, speedNumbered, selectedSpeed, courseTo, towards, hindrance, judgeStart, wellAimed, launched, started, endedWith, stopped, speedChanged, contacted, switchRead}
 use Rattle.drive.specs.Ticks.{tickSpeed, due, toTarget, distanceLeft, given, reached, advanced, goesOn, tickMotor}
 use Rattle.drive.proofs.Laws.{nothing-rounded, carried-below, given-room}
 use Rattle.drive.proofs.TickLaws.{Way, rests, arrives, ends, goes, way, reached-not, room-not, never-early}
@@ -123,13 +123,6 @@ due-bound m s = omega (arith, nothing-rounded m, tick-speed-bound m s, sound-bou
 
 pub pulses-bound : (m : Motor) → soundMotor m ≡ true → tickMotor m .pulses ≤ 5000
 pulses-bound m s = omega (arith, never-early m, tick-speed-bound m s, sound-bounds m s .fraction)
-
--- a well-formed course: none, beyond the range, to a position other than the present one, or along CW or CCW
-abbrev pub wellAimed : Motor → Course → Bool
-wellAimed m Stay = true
-wellAimed m Beyond = true
-wellAimed m (To p) = isPosition p && not (eqb p (m .place))
-wellAimed m (Along going) = eqb going cw || eqb going ccw
 
 -- The course to the place some pulses from a place is well formed.
 pub course-aimed : (m : Motor) (going p n : ℕ) → wellAimed m (courseTo m going p n) ≡ true

@@ -16,16 +16,11 @@ use Rattle.motor.proofs.RoomLaws.{moved-none, moved-twice, ahead-moved, moved-a
 use Rattle.drive.specs.declared.Ticked.{Ticked}
 use Rattle.drive.specs.declared.Course.the-variants.{To}
 use Rattle.drive.specs.declared.Verdict.the-variants.{Done}
-use Rattle.drive.specs.Drives.{selectedSpeed, towards, judgeStart, started, endedWith}
-use Rattle.drive.specs.Ticks.{tickSpeed, rest, toTarget, distanceLeft, roomLeft, given, tickMotor}
+use Rattle.drive.specs.Drives.{selectedSpeed, towards, judgeStart, wellAimed, started, endedWith}
+use Rattle.drive.specs.Ticks.{tickSpeed, rest, toTarget, distanceLeft, roomLeft, given, tickMotor, ticks, roundedUp}
 use Rattle.drive.proofs.Laws.{nothing-rounded, carried-below, given-due, stopped-given-none}
-use Rattle.drive.proofs.KeptSound.{wellAimed, towards-ahead, started-sound, tick-sound}
+use Rattle.drive.proofs.KeptSound.{towards-ahead, started-sound, tick-sound}
 use Rattle.drive.proofs.TickLaws.{Way, rests, arrives, ends, goes, way, goes-due, reached-all, reached-not, room-all}
-
--- the motor after k ticks, and nothing between them
-unfoldable pub ticks : ℕ → Motor → Motor
-ticks zero m = m
-ticks (suc k) m = tickMotor (ticks k m) .motor
 
 -- None is no change, one more is a tick of what they left, and j after k are j + k.
 pub ticks-none : (m : Motor) → ticks zero m ≡ m
@@ -54,10 +49,6 @@ ticks-rest (suc k) m d = rest-more k m d (ticks-rest k m d)
 pub ticks-sound : (k : ℕ) (m : Motor) → soundMotor m ≡ true → soundMotor (ticks k m) ≡ true
 ticks-sound zero m s = rw ticks-none s
 ticks-sound (suc k) m s = rw ticks-more (tick-sound (ticks k m) (ticks-sound k m s))
-
--- a / v, rounded up
-abbrev pub roundedUp : ℕ → ℕ → ℕ
-roundedUp a v = (a + (v - 1)) / v
 
 -- the motor of a drive once the time for t thousandths of a pulse has passed since it stood at its place with fraction 0:
 -- the thousands are pulses, the rest is the fraction

@@ -1,6 +1,6 @@
 -- Document 01: what starts a drive, what changes it and what ends it.
 use Prim.Native.Nat.{ℕ}
-use mathlib.Core.Bool.{_&&_, cond}
+use mathlib.Core.Bool.{Bool, true, _&&_, _||_, not, cond}
 use lib.Dec.{eqb, ltb}
 use Rattle.digits.specs.Places.{origin, isPosition, moved, cw, ccw}
 use Rattle.record.specs.declared.Speeds.{Speeds}
@@ -51,6 +51,14 @@ judgeStart m Stay = Done
 judgeStart m Beyond = OutOfRange
 judgeStart m (To p) = hindrance m (towards m p)
 judgeStart m (Along going) = hindrance m going
+
+-- what a course of one of document 01's starts is: none, beyond the range, to a position other than the present one, or CW or
+-- CCW
+abbrev pub wellAimed : Motor → Course → Bool
+wellAimed m Stay = true
+wellAimed m Beyond = true
+wellAimed m (To p) = isPosition p && not (eqb p (m .place))
+wellAimed m (Along going) = eqb going cw || eqb going ccw
 
 -- "A start takes the selected speed, fraction 0, and clears the end flags."
 abbrev pub launched : Motor → ℕ → ℕ → ℕ → Motor

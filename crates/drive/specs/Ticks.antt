@@ -1,5 +1,5 @@
 -- Document 01, "One tick", of one motor.
-use Prim.Native.Nat.{ℕ, _+_, _/_, _%_, min}
+use Prim.Native.Nat.{ℕ, zero, suc, _+_, _-_, _/_, _%_, min}
 use mathlib.Core.Bool.{Bool, _&&_, cond}
 use lib.Dec.{eqb}
 use Rattle.digits.specs.Places.{moved, ahead, countOf}
@@ -69,3 +69,12 @@ tickMotor m =
 -- the count that a tick puts into the pulse buffer: "CW positive, 0 for a stopped motor"
 unfoldable pub tickCount : Motor → ℕ
 tickCount m = countOf (m .drive .going) (tickMotor m .pulses)
+
+-- k ticks of one motor, with no stop, SPC or switch reading between them
+unfoldable pub ticks : ℕ → Motor → Motor
+ticks zero m = m
+ticks (suc k) m = tickMotor (ticks k m) .motor
+
+-- "rounded up": a / v, for v from 1 on
+abbrev pub roundedUp : ℕ → ℕ → ℕ
+roundedUp a v = (a + (v - 1)) / v

@@ -1,4 +1,5 @@
 pub mod Laws
 pub mod SoundLaws
 pub mod RoomLaws
+pub mod RecordLaws
 pub mod Cases

@@ -10,8 +10,8 @@ use lib.Seq.{getD-take, getD-drop}
 use Rattle.digits.specs.Bytes.{part, joined, allZero}
 use Rattle.digits.specs.Words.{word, wordBytes}
 use Rattle.digits.specs.Places.{placeOf, wordOf}
-use Rattle.digits.proofs.PartLaws.{part-length, part-add, part-bytes, part-one, zero-bytes, part-whole, cut-joined}
-use Rattle.digits.proofs.WordLaws.{word-bytes, bytes-word, word-below}
+use Rattle.digits.proofs.PartLaws.{append-bytes, cons-bytes, none-bytes, zeros-bytes, part-length, part-add, part-bytes, part-one, zero-bytes, part-whole, cut-joined}
+use Rattle.digits.proofs.WordLaws.{word-bytes, bytes-word, word-below, word-bytes-bytes}
 use Rattle.digits.proofs.Signed.{place-bytes, word-place}
 use Rattle.record.specs.declared.Motor.{Motor}
 use Rattle.record.specs.Record.{byteAt, shortAt, longAt, placeAt, limitsOf, speedsOf, wiringOf, setupOf, driveOf, motorOf, placeBytes, limitBytes, speedBytes, wiringBytes, setupBytes, settingBytes, driveBytes, recordOf, standing}
@@ -54,6 +54,32 @@ drive-part m = refl
 pub standing-zero : (m : Motor) → m .drive ≡ standing → part (recordOf m) 32 12 ≡ replicate 12 0
 unfolding joined wordBytes wordOf
 standing-zero m e = rw (drive-part m, e)
+
+-- Bytes 44 to 63 are zero.
+pub rest-part : (m : Motor) → part (recordOf m) 44 20 ≡ replicate 20 0
+unfolding recordOf settingBytes joined part wordBytes
+rest-part m = refl
+
+-- The bytes of a record are bytes, where the one-byte fields of its motor are.
+pub record FitsBytes (m : Motor) : Type 0 where
+  pub selected : m .speeds .selected < 256
+  pub setls : m .wiring .setls < 256
+  pub contacts : m .wiring .contacts < 256
+  pub a : m .setup .a < 256
+  pub b : m .setup .b < 256
+  pub c : m .setup .c < 256
+  pub d : m .setup .d < 256
+  pub ended : m .ended < 256
+  pub going : m .drive .going < 256
+  pub kind : m .drive .kind < 256
+
+setting-bytes : (m : Motor) → FitsBytes m → (k : ℕ) → getD (settingBytes m) k 0 < 256
+unfolding settingBytes joined
+setting-bytes m f = search (append-bytes, cons-bytes, none-bytes, word-bytes-bytes) depth 16
+
+pub record-bytes : (m : Motor) → FitsBytes m → (k : ℕ) → getD (recordOf m) k 0 < 256
+unfolding recordOf joined
+record-bytes m f = search (append-bytes, cons-bytes, none-bytes, word-bytes-bytes, zeros-bytes, setting-bytes) depth 16
 
 -- Bytes of a record, each below 256, as the bytes of a buffer are.
 module _ (b : List ℕ) (whole : length b ≡ 64) (bytes : (k : ℕ) → getD b k 0 < 256) where

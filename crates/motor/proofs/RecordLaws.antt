@@ -1,0 +1,52 @@
+-- A sound motor and its record. Assumes nothing.
+use mathlib.Core.Path.{_≡_, refl}
+use mathlib.Core.List.{List}
+use mathlib.Core.Bool.{Bool, true, false, _&&_}
+use Prim.Native.Nat.{ℕ, _≤_, _<_}
+use native.Mathlib.Omega.{arith}
+use lib.ListN.{length, getD}
+use lib.Dec.{eqb}
+use borrow.Author.Tests.{eqb-true}
+use Rattle.digits.specs.Bytes.{part, allZero}
+use Rattle.record.specs.declared.Motor.{Motor}
+use Rattle.record.specs.Record.{motorOf, recordOf}
+use Rattle.record.proofs.RoundTrip.{FitsRecord, FitsBytes, written-read, read-written, record-length, record-bytes, rest-part}
+use Rattle.motor.specs.Sound.{driving, soundMotor, soundRecord}
+use Rattle.motor.proofs.SoundLaws.{and-l, and-r, sound-bounds, sound-driving, sound-standing}
+
+-- The speed in force of a sound motor is 5,000,000 at most, driving or not.
+speed-in-force : (m : Motor) → soundMotor m ≡ true → m .drive .speed ≤ 5000000
+speed-in-force m s = go (driving m) refl
+  where
+    go : (t : Bool) → driving m ≡ t → m .drive .speed ≤ 5000000
+    go true d = sound-driving m s d .fastest
+    go false d = rw (sound-standing m s d) (omega arith)
+
+-- The numbers of a sound motor fit the bytes that they are written in.
+pub sound-fits : (m : Motor) → soundMotor m ≡ true → FitsRecord m
+sound-fits m s = let b = sound-bounds m s in let v = speed-in-force m s in omega arith
+
+pub sound-fits-bytes : (m : Motor) → soundMotor m ≡ true → FitsBytes m
+sound-fits-bytes m s = let b = sound-bounds m s in omega arith
+
+-- A sound motor that is written and read back is the same motor.
+pub sound-written-read : (m : Motor) → soundMotor m ≡ true → motorOf (recordOf m) ≡ m
+sound-written-read m s = written-read m (sound-fits m s)
+
+-- Sound bytes that are read and written back are the same bytes.
+pub sound-read-written : (b : List ℕ) → soundRecord b ≡ true → ((k : ℕ) → getD b k 0 < 256) → recordOf (motorOf b) ≡ b
+unfolding soundRecord
+sound-read-written b s bytes =
+    read-written b (eqb-true (length b) 64 (and-l _ _ (and-l _ (allZero (part b 44 20)) s))) bytes (and-r (eqb (length b) 64 && soundMotor (motorOf b)) _ s)
+
+-- The record of a sound motor is sound, and its bytes are bytes; and a sound record holds a sound motor.
+pub record-sound : (m : Motor) → soundMotor m ≡ true → soundRecord (recordOf m) ≡ true
+unfolding soundRecord allZero
+record-sound m s = rw (record-length m, sound-written-read m s, s, rest-part m)
+
+pub sound-record-bytes : (m : Motor) → soundMotor m ≡ true → (k : ℕ) → getD (recordOf m) k 0 < 256
+sound-record-bytes m s = record-bytes m (sound-fits-bytes m s)
+
+pub record-motor-sound : (b : List ℕ) → soundRecord b ≡ true → soundMotor (motorOf b) ≡ true
+unfolding soundRecord
+record-motor-sound b s = and-r (eqb (length b) 64) _ (and-l _ (allZero (part b 44 20)) s)
