@@ -21,7 +21,7 @@ with-place-requires : tie.Need-with-place-requires
 with-place-requires c κs = search needs
 
 returns : tie.Need-returns
-returns c = cc
+returns c = rw (c .with-place .ensures, c .before .place-ahead .ensures, c .before .before .given-pulses .ensures)
 
 pub advance-spec : {M : Type 1} → statement M
 advance-spec =

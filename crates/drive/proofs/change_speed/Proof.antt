@@ -8,7 +8,7 @@ with-drive-requires c κs = search needs
 
 returns : tie.Need-returns
 unfolding speedChanged
-returns c = cc
+returns c = rw (c .with-drive .ensures)
 
 pub change-speed-spec : {M : Type 1} → statement M
 change-speed-spec = tie.close (tie.spec with-drive-requires returns)

@@ -8,7 +8,7 @@ pulses-ahead-requires c κs = search needs
 
 returns : tie.Need-returns
 unfolding distanceLeft
-returns c = cc
+returns c = rw (c .pulses-ahead .ensures)
 
 pub distance-left-spec : {M : Type 1} → statement M
 distance-left-spec = tie.close (tie.spec pulses-ahead-requires returns)

@@ -12,7 +12,7 @@ cast-result c = omega arith
 
 returns : tie.Need-returns
 unfolding due
-returns c = cc
+returns c = rw (c .thousandths .ensures .0)
 
 pub due-pulses-spec : {M : Type 1} → statement M
 due-pulses-spec = tie.close (tie.spec thousandths-requires cast-result returns)

@@ -23,7 +23,7 @@ smaller-requires-2 c κs = search needs
 
 returns : tie.Need-returns
 unfolding given
-returns c = cc
+returns c = rw (c .smaller2 .ensures, c .before .due-pulses .ensures, c .before .before .choose .ensures, c .before .before .before .smaller .ensures, c .before .before .before .before .distance-left .ensures, c .before .before .before .before .before .before .room-of .ensures)
 
 pub given-pulses-spec : {M : Type 1} → statement M
 given-pulses-spec =

@@ -11,7 +11,7 @@ distance-left-requires c κs = search needs
 
 returns : tie.Need-returns
 unfolding reached
-returns c = cc
+returns c = rw (c .distance-left .ensures, c .before .given-pulses .ensures)
 
 pub is-reached-spec : {M : Type 1} → statement M
 is-reached-spec = tie.close (tie.spec given-pulses-requires distance-left-requires returns)

@@ -11,7 +11,7 @@ room-of-requires c κs = search needs
 
 returns : tie.Need-returns
 unfolding usedUp
-returns c = cc
+returns c = rw (c .room-of .ensures, c .before .given-pulses .ensures)
 
 pub is-used-up-spec : {M : Type 1} → statement M
 is-used-up-spec = tie.close (tie.spec given-pulses-requires room-of-requires returns)

@@ -9,7 +9,7 @@ with-drive-requires : tie.Need-with-drive-requires
 with-drive-requires c κs = search needs
 
 returns : tie.Need-returns
-returns c = cc
+returns c = rw (c .with-drive .ensures, c .before .speed-numbered .ensures)
 
 pub launch-spec : {M : Type 1} → statement M
 launch-spec = tie.close (tie.spec speed-numbered-requires with-drive-requires returns)

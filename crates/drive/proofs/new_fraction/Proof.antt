@@ -11,7 +11,7 @@ cast-result c = search needs
 
 returns : tie.Need-returns
 unfolding rest
-returns c = cc
+returns c = rw (c .thousandths .ensures .0)
 
 pub new-fraction-spec : {M : Type 1} → statement M
 new-fraction-spec = tie.close (tie.spec thousandths-requires cast-result returns)

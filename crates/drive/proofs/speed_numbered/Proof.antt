@@ -11,7 +11,7 @@ choose-requires-2 c κs = search needs
 
 returns : tie.Need-returns
 unfolding speedNumbered
-returns c = cc
+returns c = rw (c .choose2 .ensures, c .before .choose .ensures)
 
 pub speed-numbered-spec : {M : Type 1} → statement M
 speed-numbered-spec = tie.close (tie.spec choose-requires choose-requires-2 returns)

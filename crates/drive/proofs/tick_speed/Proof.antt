@@ -11,7 +11,7 @@ choose-requires c κs = search needs
 
 returns : tie.Need-returns
 unfolding tickSpeed
-returns c = cc
+returns c = rw (c .choose .ensures, c .before .is-driving .ensures)
 
 pub tick-speed-spec : {M : Type 1} → statement M
 tick-speed-spec = tie.close (tie.spec is-driving-requires choose-requires returns)

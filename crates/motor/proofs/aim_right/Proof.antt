@@ -11,7 +11,7 @@ choose-test-requires c κs = search needs
 
 returns : tie.Need-returns
 unfolding aimRight
-returns c = cc
+returns c = rw (c .choose-test .ensures, c .before .before .before .pulses-ahead .ensures)
 
 pub aim-right-spec : {M : Type 1} → statement M
 aim-right-spec = tie.close (tie.spec pulses-ahead-requires choose-test-requires returns)

@@ -8,7 +8,7 @@ is-position-requires c κs = search needs
 
 returns : tie.Need-returns
 unfolding driveInRange
-returns c = cc
+returns c = rw (c .is-position .ensures)
 
 pub drive-in-range-spec : {M : Type 1} → statement M
 drive-in-range-spec = tie.close (tie.spec is-position-requires returns)

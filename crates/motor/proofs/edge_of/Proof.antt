@@ -23,7 +23,7 @@ choose-requires-3 c κs = search needs
 
 returns : tie.Need-returns
 unfolding edge
-returns c = cc
+returns c = rw (c .choose3 .ensures, c .before .choose2 .ensures, c .before .before .larger .ensures, c .before .before .before .choose .ensures, c .before .before .before .before .smaller .ensures, c .before .before .before .before .before .is-set .ensures)
 
 pub edge-of-spec : {M : Type 1} → statement M
 edge-of-spec =

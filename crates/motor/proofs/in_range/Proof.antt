@@ -26,7 +26,7 @@ drive-in-range-requires c κs = search needs
 
 returns : tie.Need-returns
 unfolding inRange
-returns c = cc
+returns c = rw (c .drive-in-range .ensures, c .before .end-flags-in-range .ensures, c .before .before .setup-in-range .ensures, c .before .before .before .wiring-in-range .ensures, c .before .before .before .before .speeds-in-range .ensures, c .before .before .before .before .before .limits-in-range .ensures, c .before .before .before .before .before .before .is-position .ensures)
 
 pub in-range-spec : {M : Type 1} → statement M
 in-range-spec =

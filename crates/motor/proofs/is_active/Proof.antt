@@ -11,7 +11,7 @@ is-set-requires-2 c κs = search needs
 
 returns : tie.Need-returns
 unfolding active
-returns c = cc
+returns c = rw (c .is-set2 .ensures, c .before .is-set .ensures)
 
 pub is-active-spec : {M : Type 1} → statement M
 is-active-spec = tie.close (tie.spec is-set-requires is-set-requires-2 returns)

@@ -17,7 +17,7 @@ is-active-requires c κs = search needs
 
 returns : tie.Need-returns
 unfolding blocked
-returns c = cc
+returns c = rw (c .is-active .ensures, c .before .is-set .ensures, c .before .before .switch-of .ensures .0)
 
 pub is-blocked-spec : {M : Type 1} → statement M
 is-blocked-spec =

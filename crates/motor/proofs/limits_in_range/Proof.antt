@@ -11,7 +11,7 @@ is-position-requires-2 c κs = search needs
 
 returns : tie.Need-returns
 unfolding limitsInRange
-returns c = cc
+returns c = rw (c .is-position2 .ensures, c .before .is-position .ensures)
 
 pub limits-in-range-spec : {M : Type 1} → statement M
 limits-in-range-spec = tie.close (tie.spec is-position-requires is-position-requires-2 returns)

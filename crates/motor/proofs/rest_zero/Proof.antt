@@ -22,7 +22,8 @@ long-at-requires-5 c κs = search needs
 returns : tie.Need-returns
 returns c =
     let b = c .before .before .before .before .before .before .args .b .now in
-    rw (zero-part b 44 4 16, zero-part b 48 4 12, zero-part b 52 4 8, zero-part b 56 4 4, ← word-zero (part b 60 4)) (cc)
+    rw (c .long-at5 .ensures, c .before .long-at4 .ensures, c .before .before .long-at3 .ensures, c .before .before .before .long-at2 .ensures, c .before .before .before .before .long-at .ensures)
+    (rw (zero-part b 44 4 16, zero-part b 48 4 12, zero-part b 52 4 8, zero-part b 56 4 4, ← word-zero (part b 60 4)))
 
 pub rest-zero-spec : {M : Type 1} → statement M
 rest-zero-spec =

@@ -11,7 +11,7 @@ pulses-ahead-requires c κs = search needs
 
 returns : tie.Need-returns
 unfolding room
-returns c = cc
+returns c = rw (c .pulses-ahead .ensures, c .before .edge-of .ensures)
 
 pub room-of-spec : {M : Type 1} → statement M
 room-of-spec = tie.close (tie.spec edge-of-requires pulses-ahead-requires returns)

@@ -20,7 +20,7 @@ choose-test-requires c κs = search needs
 
 returns : tie.Need-returns
 unfolding soundMotor
-returns c = cc
+returns c = rw (c .choose-test .ensures, c .before .at-rest .ensures, c .before .before .under-way .ensures, c .before .before .before .is-driving .ensures, c .before .before .before .before .in-range .ensures)
 
 pub sound-motor-spec : {M : Type 1} → statement M
 sound-motor-spec =

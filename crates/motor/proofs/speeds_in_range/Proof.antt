@@ -14,7 +14,7 @@ is-speed-requires-3 c κs = search needs
 
 returns : tie.Need-returns
 unfolding speedsInRange
-returns c = cc
+returns c = rw (c .before .is-speed3 .ensures, c .before .before .is-speed2 .ensures, c .before .before .before .is-speed .ensures)
 
 pub speeds-in-range-spec : {M : Type 1} → statement M
 speeds-in-range-spec =

@@ -17,7 +17,7 @@ is-speed-requires c κs = search needs
 
 returns : tie.Need-returns
 unfolding underWay
-returns c = cc
+returns c = rw (c .is-speed .ensures, c .before .before .before .aim-right .ensures, c .before .before .before .before .is-blocked .ensures, c .before .before .before .before .before .room-of .ensures)
 
 pub under-way-spec : {M : Type 1} → statement M
 under-way-spec =

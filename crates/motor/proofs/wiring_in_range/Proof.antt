@@ -8,7 +8,7 @@ is-set-requires c κs = search needs
 
 returns : tie.Need-returns
 unfolding wiringInRange
-returns c = cc
+returns c = rw (c .before .is-set .ensures)
 
 pub wiring-in-range-spec : {M : Type 1} → statement M
 wiring-in-range-spec = tie.close (tie.spec is-set-requires returns)

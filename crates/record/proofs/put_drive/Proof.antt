@@ -30,7 +30,8 @@ returns : tie.Need-returns
 unfolding joined wordBytes
 returns c =
     let a = c .before .before .before .before .before .before .before .before .before .before .before .before .before .before .before .before .before .before .before .before .before .args in
-    cc (lay-put ((a .d .going ∷ []) ∷ (a .d .kind ∷ []) ∷ wordBytes 2 (a .d .fraction) ∷ wordBytes 4 (a .d .speed) ∷ placeBytes (a .d .target) ∷ []) (a .b .now) 32 (omega arith))
+    rw (c .before .before .put-place .ensures, c .before .before .before .before .before .before .put-long .ensures, c .before .before .before .before .before .before .before .before .before .before .put-short .ensures, c .before .before .before .before .before .before .before .before .before .before .before .before .before .before .put-byte2 .ensures, c .before .before .before .before .before .before .before .before .before .before .before .before .before .before .before .before .before .before .put-byte .ensures)
+    (lay-put ((a .d .going ∷ []) ∷ (a .d .kind ∷ []) ∷ wordBytes 2 (a .d .fraction) ∷ wordBytes 4 (a .d .speed) ∷ placeBytes (a .d .target) ∷ []) (a .b .now) 32 (omega arith))
 
 pub put-drive-spec : {M : Type 1} → statement M
 put-drive-spec =

@@ -21,7 +21,8 @@ returns : tie.Need-returns
 unfolding joined wordBytes
 returns c =
     let a = c .before .before .before .before .before .before .before .before .before .args in
-    cc (lay-put (placeBytes (a .l .cw) ∷ placeBytes (a .l .ccw) ∷ []) (a .b .now) 4 (omega arith))
+    rw (c .before .before .put-place2 .ensures, c .before .before .before .before .before .before .put-place .ensures)
+    (lay-put (placeBytes (a .l .cw) ∷ placeBytes (a .l .ccw) ∷ []) (a .b .now) 4 (omega arith))
 
 pub put-limits-spec : {M : Type 1} → statement M
 put-limits-spec = tie.close (tie.spec put-place-requires put-place-requires-2 same-length returns)

@@ -30,7 +30,8 @@ returns : tie.Need-returns
 unfolding joined wordBytes settingBytes
 returns c =
     let a = c .before .before .before .before .before .before .before .before .before .before .before .before .before .before .before .before .before .before .before .before .before .before .before .before .before .args in
-    cc (lay-put (placeBytes (a .m .place) ∷ limitBytes (a .m .limits) ∷ speedBytes (a .m .speeds) ∷ wiringBytes (a .m .wiring) ∷ setupBytes (a .m .setup) ∷ []) (a .b .now) 0 (omega arith))
+    rw (c .before .before .put-setup .ensures, c .before .before .before .before .before .before .put-wiring .ensures, c .before .before .before .before .before .before .before .before .before .before .put-speeds .ensures, c .before .before .before .before .before .before .before .before .before .before .before .before .before .before .put-limits .ensures, c .before .before .before .before .before .before .before .before .before .before .before .before .before .before .before .before .before .before .put-place .ensures)
+    (lay-put (placeBytes (a .m .place) ∷ limitBytes (a .m .limits) ∷ speedBytes (a .m .speeds) ∷ wiringBytes (a .m .wiring) ∷ setupBytes (a .m .setup) ∷ []) (a .b .now) 0 (omega arith))
 
 pub put-settings-spec : {M : Type 1} → statement M
 put-settings-spec =

@@ -26,7 +26,8 @@ returns : tie.Need-returns
 unfolding joined wordBytes
 returns c =
     let a = c .before .before .before .before .before .before .before .before .before .before .before .before .before .before .before .before .before .args in
-    cc (lay-put (wordBytes 4 (a .s .high) ∷ wordBytes 4 (a .s .middle) ∷ wordBytes 4 (a .s .low) ∷ (a .s .selected ∷ []) ∷ []) (a .b .now) 12 (omega arith))
+    rw (c .before .before .put-byte .ensures, c .before .before .before .before .before .before .put-long3 .ensures, c .before .before .before .before .before .before .before .before .before .before .put-long2 .ensures, c .before .before .before .before .before .before .before .before .before .before .before .before .before .before .put-long .ensures)
+    (lay-put (wordBytes 4 (a .s .high) ∷ wordBytes 4 (a .s .middle) ∷ wordBytes 4 (a .s .low) ∷ (a .s .selected ∷ []) ∷ []) (a .b .now) 12 (omega arith))
 
 pub put-speeds-spec : {M : Type 1} → statement M
 put-speeds-spec =

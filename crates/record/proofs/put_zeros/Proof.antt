@@ -29,7 +29,8 @@ returns : tie.Need-returns
 unfolding joined wordBytes
 returns c =
     let a = c .before .before .before .before .before .before .before .before .before .before .before .before .before .before .before .before .before .before .before .before .before .args in
-    cc (lay-put (wordBytes 4 0 ∷ wordBytes 4 0 ∷ wordBytes 4 0 ∷ wordBytes 4 0 ∷ wordBytes 4 0 ∷ []) (a .b .now) 44 (omega arith))
+    rw (c .before .before .put-long5 .ensures, c .before .before .before .before .before .before .put-long4 .ensures, c .before .before .before .before .before .before .before .before .before .before .put-long3 .ensures, c .before .before .before .before .before .before .before .before .before .before .before .before .before .before .put-long2 .ensures, c .before .before .before .before .before .before .before .before .before .before .before .before .before .before .before .before .before .before .put-long .ensures)
+    (lay-put (wordBytes 4 0 ∷ wordBytes 4 0 ∷ wordBytes 4 0 ∷ wordBytes 4 0 ∷ wordBytes 4 0 ∷ []) (a .b .now) 44 (omega arith))
 
 pub put-zeros-spec : {M : Type 1} → statement M
 put-zeros-spec =

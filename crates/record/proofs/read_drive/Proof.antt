@@ -18,7 +18,7 @@ place-at-requires : tie.Need-place-at-requires
 place-at-requires c κs = search needs
 
 returns : tie.Need-returns
-returns c = cc
+returns c = rw (c .place-at .ensures, c .before .long-at .ensures, c .before .before .short-at .ensures, c .before .before .before .byte-at2 .ensures, c .before .before .before .before .byte-at .ensures)
 
 pub read-drive-spec : {M : Type 1} → statement M
 read-drive-spec =

@@ -9,7 +9,7 @@ place-at-requires-2 : tie.Need-place-at-requires-2
 place-at-requires-2 c κs = search needs
 
 returns : tie.Need-returns
-returns c = cc
+returns c = rw (c .place-at2 .ensures, c .before .place-at .ensures)
 
 pub read-limits-spec : {M : Type 1} → statement M
 read-limits-spec = tie.close (tie.spec place-at-requires place-at-requires-2 returns)

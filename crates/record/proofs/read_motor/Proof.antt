@@ -26,7 +26,7 @@ read-drive-requires c κs = search needs
 
 returns : tie.Need-returns
 unfolding motorOf
-returns c = cc
+returns c = rw (c .read-drive .ensures, c .before .byte-at .ensures, c .before .before .read-setup .ensures, c .before .before .before .read-wiring .ensures, c .before .before .before .before .read-speeds .ensures, c .before .before .before .before .before .read-limits .ensures, c .before .before .before .before .before .before .place-at .ensures)
 
 pub read-motor-spec : {M : Type 1} → statement M
 read-motor-spec =

@@ -15,7 +15,7 @@ byte-at-requires : tie.Need-byte-at-requires
 byte-at-requires c κs = search needs
 
 returns : tie.Need-returns
-returns c = cc
+returns c = rw (c .byte-at .ensures, c .before .long-at3 .ensures, c .before .before .long-at2 .ensures, c .before .before .before .long-at .ensures)
 
 pub read-speeds-spec : {M : Type 1} → statement M
 read-speeds-spec =

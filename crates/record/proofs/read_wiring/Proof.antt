@@ -9,7 +9,7 @@ byte-at-requires-2 : tie.Need-byte-at-requires-2
 byte-at-requires-2 c κs = search needs
 
 returns : tie.Need-returns
-returns c = cc
+returns c = rw (c .byte-at2 .ensures, c .before .byte-at .ensures)
 
 pub read-wiring-spec : {M : Type 1} → statement M
 read-wiring-spec = tie.close (tie.spec byte-at-requires byte-at-requires-2 returns)

@@ -1,5 +1,6 @@
 use borrow.Author.Needs.{needs}
 use native.Mathlib.Omega.{arith}
+use mathlib.Core.Path.{_∙_}
 use mathlib.Core.List.{[], _∷_}
 use lib.ListN.{replicate}
 use Rattle.digits.specs.Bytes.{joined}
@@ -28,8 +29,9 @@ returns : tie.Need-returns
 unfolding joined wordBytes settingBytes recordOf
 returns c =
     let a = c .before .before .before .before .before .before .before .before .before .before .before .before .before .before .before .before .before .before .args in
-    cc
-    (lay-put (settingBytes (a .m) ∷ (a .m .ended ∷ []) ∷ driveBytes (a .m .drive) ∷ replicate 20 0 ∷ []) (a .b .now) 0 (omega arith), put-whole (a .b .now) (recordOf (a .m)) (omega arith))
+    rw (c .before .before .put-zeros .ensures, c .before .before .before .before .before .before .put-drive .ensures, c .before .before .before .before .before .before .before .before .before .before .put-byte .ensures, c .before .before .before .before .before .before .before .before .before .before .before .before .before .before .put-settings .ensures)
+    (lay-put (settingBytes (a .m) ∷ (a .m .ended ∷ []) ∷ driveBytes (a .m .drive) ∷ replicate 20 0 ∷ []) (a .b .now) 0 (omega arith)
+    ∙ put-whole (a .b .now) (recordOf (a .m)) (omega arith))
 
 pub write-motor-spec : {M : Type 1} → statement M
 write-motor-spec =

@@ -28,7 +28,7 @@ add-result c = search needs
 returns : tie.Need-returns
 returns c =
     let a = c .before .before .before .args in
-    rw (word-part (a .s .now) (a .at) 2 2 (omega arith)) (cc)
+    rw (word-part (a .s .now) (a .at) 2 2 (omega arith), c .short-at2 .ensures, c .before .short-at .ensures)
 
 pub long-at-spec : {M : Type 1} → statement M
 long-at-spec =

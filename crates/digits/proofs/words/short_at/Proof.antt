@@ -28,7 +28,7 @@ add-result c = search needs
 returns : tie.Need-returns
 returns c =
     let a = c .before .before .before .args in
-    rw (word-part (a .s .now) (a .at) 1 1 (omega arith)) (cc)
+    rw (word-part (a .s .now) (a .at) 1 1 (omega arith), c .byte-at2 .ensures, c .before .byte-at .ensures)
 
 pub short-at-spec : {M : Type 1} → statement M
 short-at-spec =
