@@ -7,7 +7,8 @@ use Rattle.digits.specs.Places.{origin, cw, ccw}
 use Rattle.record.specs.declared.Motor.{Motor}
 use Rattle.record.specs.Record.{recordOf, freshMotor, withLimits, withSpeeds, withWiring, withSetup}
 use Rattle.drive.specs.declared.Course.the-variants.{Stay, Beyond, To, Along}
-use Rattle.drive.specs.declared.Verdict.the-variants.{Done, OutOfRange, Disabled, SwitchAhead, NoRoom}
+use Rattle.drive.specs.declared.Verdict.the-variants.{Done, NoForm, Busy, OutOfRange, LocalMode, Disabled, SwitchAhead, NoRoom, NotDriving, WrongSize, NotSound}
+use Rattle.drive.specs.Numbers.{numberOf}
 use Rattle.drive.specs.Drives.{courseTo, judgeStart, started, stopped, speedChanged, switchRead, lsend}
 use Rattle.drive.specs.Ticks.{tickMotor, ticks}
 use Rattle.drive.specs.Computing.{computing-drive}
@@ -87,3 +88,10 @@ starts :
     × (judgeStart (limited 800 0) (To (origin - 9)) ≡ Done)
 unfolding computing-drive disabled wired limited atSpeed
 starts = (refl, refl, refl, refl, refl, refl, refl, refl, refl, refl, refl)
+
+-- "Numbers handed back", cause by cause, in the order of the list.
+numbers :
+    map numberOf (Done ∷ NoForm ∷ Busy ∷ OutOfRange ∷ LocalMode ∷ Disabled ∷ SwitchAhead ∷ NoRoom ∷ NotDriving ∷ WrongSize ∷ NotSound ∷ [])
+    ≡ 0 ∷ 1 ∷ 2 ∷ 3 ∷ 4 ∷ 4 ∷ 4 ∷ 4 ∷ 4 ∷ 5 ∷ 6 ∷ []
+unfolding computing-drive
+numbers = refl

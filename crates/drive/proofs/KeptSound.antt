@@ -1,5 +1,5 @@
 -- Each operation on a sound motor leaves a sound motor, and a tick of one is small. Assumes nothing.
-use mathlib.Core.Path.{_≡_, refl}
+use mathlib.Core.Path.{_≡_, refl, _∙_}
 use mathlib.Core.Bool.{Bool, true, false, _&&_, _||_, not, cond, false≢true}
 use Prim.Native.Nat.{ℕ, _≤_}
 use native.Mathlib.Omega.{arith}
@@ -207,34 +207,26 @@ started-sound m (Along going) s h a =
     let t = two-ways going a in
     launched-sound m going 0 origin (sound-parts m s .range) h (t .0) (t .1) (omega arith) refl refl
 
--- A setting of a stopped motor leaves a sound motor: a position, the limits, the speeds, the SETLS byte and the SETMT
--- digits, each in its range.
-pub place-set-sound :
-    (m : Motor) (p : ℕ) → isPosition p ≡ true → driving m ≡ false → soundMotor m ≡ true → soundMotor (withPlace m p) ≡ true
-place-set-sound m p h d s =
-    let r = sound-parts m s .range in
-    standing-sound (withPlace m p) (search) (sound-standing m s d)
+-- A setting of a stopped motor leaves a sound motor: whatever changes, if every field is in its range and the drive is as it
+-- was. The settings are a position, the limits, the speeds, the SETLS byte and the SETMT digits.
+module _ (m : Motor) (d : driving m ≡ false) (s : soundMotor m ≡ true) where
+  r : InRange m
+  r = sound-parts m s .range
 
-pub limits-set-sound :
-    (m : Motor) (l : Limits) → limitsInRange l ≡ true → driving m ≡ false → soundMotor m ≡ true → soundMotor (withLimits m l) ≡ true
-limits-set-sound m l h d s =
-    let r = sound-parts m s .range in
-    standing-sound (withLimits m l) (search) (sound-standing m s d)
+  set-sound : (n : Motor) → InRange n → n .drive ≡ m .drive → soundMotor n ≡ true
+  set-sound n q e = standing-sound n q (e ∙ sound-standing m s d)
 
-pub speeds-set-sound :
-    (m : Motor) (v : Speeds) → speedsInRange v ≡ true → driving m ≡ false → soundMotor m ≡ true → soundMotor (withSpeeds m v) ≡ true
-speeds-set-sound m v h d s =
-    let r = sound-parts m s .range in
-    standing-sound (withSpeeds m v) (search) (sound-standing m s d)
+  pub place-set-sound : (p : ℕ) → isPosition p ≡ true → soundMotor (withPlace m p) ≡ true
+  place-set-sound p h = set-sound (withPlace m p) (search r) refl
 
-pub wiring-set-sound :
-    (m : Motor) (w : Wiring) → wiringInRange w ≡ true → driving m ≡ false → soundMotor m ≡ true → soundMotor (withWiring m w) ≡ true
-wiring-set-sound m w h d s =
-    let r = sound-parts m s .range in
-    standing-sound (withWiring m w) (search) (sound-standing m s d)
+  pub limits-set-sound : (l : Limits) → limitsInRange l ≡ true → soundMotor (withLimits m l) ≡ true
+  limits-set-sound l h = set-sound (withLimits m l) (search r) refl
 
-pub setup-set-sound :
-    (m : Motor) (u : Setup) → setupInRange u ≡ true → driving m ≡ false → soundMotor m ≡ true → soundMotor (withSetup m u) ≡ true
-setup-set-sound m u h d s =
-    let r = sound-parts m s .range in
-    standing-sound (withSetup m u) (search) (sound-standing m s d)
+  pub speeds-set-sound : (v : Speeds) → speedsInRange v ≡ true → soundMotor (withSpeeds m v) ≡ true
+  speeds-set-sound v h = set-sound (withSpeeds m v) (search r) refl
+
+  pub wiring-set-sound : (w : Wiring) → wiringInRange w ≡ true → soundMotor (withWiring m w) ≡ true
+  wiring-set-sound w h = set-sound (withWiring m w) (search r) refl
+
+  pub setup-set-sound : (u : Setup) → setupInRange u ≡ true → soundMotor (withSetup m u) ≡ true
+  setup-set-sound u h = set-sound (withSetup m u) (search r) refl

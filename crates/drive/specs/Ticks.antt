@@ -34,9 +34,13 @@ distanceLeft m = ahead (m .drive .going) (m .place) (m .drive .target)
 abbrev pub roomLeft : Motor → ℕ
 roomLeft m = room (m .drive .going) m
 
+-- "room and, for a target, the distance left": the least of them
+abbrev pub allowed : Motor → ℕ
+allowed m = cond (toTarget m) (min (roomLeft m) (distanceLeft m)) (roomLeft m)
+
 -- "Pulses given are the least of due, room and, for a target, the distance left."
 unfoldable pub given : Motor → ℕ
-given m = min (due m) (cond (toTarget m) (min (roomLeft m) (distanceLeft m)) (roomLeft m))
+given m = min (due m) (allowed m)
 
 -- "If the target is reached"
 unfoldable pub reached : Motor → Bool

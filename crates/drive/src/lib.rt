@@ -21,7 +21,7 @@ ghost use Prim.Native.Nat.{_+_, _<_};
 ghost use Rattle.record.specs.Record.{withPlace, withWiring, withDrive};
 ghost use Rattle.drive.specs.Drives.{speedNumbered, courseTo, towards, hindrance, judgeStart, launched, started};
 ghost use Rattle.drive.specs.Drives.{endedWith, stopped, judgeSpeedChange, speedChanged, contacted, switchRead};
-ghost use Rattle.drive.specs.Ticks.{tickSpeed, due, rest, distanceLeft, given, reached, usedUp, advanced};
+ghost use Rattle.drive.specs.Ticks.{tickSpeed, due, rest, distanceLeft, allowed, given, reached, usedUp, advanced};
 ghost use Rattle.drive.specs.Ticks.{goesOn, drivenOn, tickMotor};
 
 // The end flag of a drive that a switch or the end of its room ended.
@@ -262,13 +262,19 @@ fn distance_left(m: Motor) -> u32
     pulses_ahead(m.drive.going, m.place, m.drive.target)
 }
 
-// The pulses that a tick gives a driving motor: what is due, as far as room and the target allow.
+// The most that room and, for a target, the distance left allow.
+fn allowed_pulses(m: Motor) -> u32
+    ensures { λ r. ⌜ r ≡ allowed m ⌝ }
+{
+    let room = room_of(m.drive.going, m);
+    choose(m.drive.kind == 1, smaller(room, distance_left(m)), room)
+}
+
+// The pulses that a tick gives a driving motor: what is due, as far as it is allowed.
 fn given_pulses(m: Motor) -> u32
     ensures { λ r. ⌜ r ≡ given m ⌝ }
 {
-    let room = room_of(m.drive.going, m);
-    let most = choose(m.drive.kind == 1, smaller(room, distance_left(m)), room);
-    smaller(due_pulses(m), most)
+    smaller(due_pulses(m), allowed_pulses(m))
 }
 
 // Whether this tick reaches the target.

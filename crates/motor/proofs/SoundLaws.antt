@@ -11,7 +11,7 @@ use Rattle.record.specs.declared.Drive.{Drive}
 use Rattle.record.specs.declared.Motor.{Motor}
 use Rattle.record.specs.Record.{standing}
 use Rattle.motor.specs.Switches.{blocked, room}
-use Rattle.motor.specs.Sound.{isSpeed, limitsInRange, speedsInRange, wiringInRange, setupInRange, endFlagsInRange, driveInRange, inRange, atRest, aimRight, underWay, driving, soundMotor}
+use Rattle.motor.specs.Sound.{isSpeed, limitsInRange, speedsInRange, wiringInRange, setupInRange, endFlagsInRange, driveInRange, settingsInRange, inRange, atRest, aimRight, underWay, driving, soundMotor}
 
 -- Of a conjunction that holds, both parts hold.
 pub and-l : (a b : Bool) → (a && b) ≡ true → a ≡ true
@@ -34,11 +34,11 @@ pub record InRange (m : Motor) : Type 0 where
 
 -- Fields in range are in range topic by topic, and the other way round.
 pub range-parts : (m : Motor) → inRange m ≡ true → InRange m
-unfolding inRange
+unfolding inRange settingsInRange
 range-parts m e = search (and-l, and-r)
 
 pub parts-range : (m : Motor) → InRange m → inRange m ≡ true
-unfolding inRange
+unfolding inRange settingsInRange
 parts-range m r = cc
 
 -- "a driving record has end flags 0, A = 1, at least one pulse of room (below), no active enabled switch in its direction,

@@ -45,11 +45,15 @@ endFlagsInRange e = eqb e 0 || eqb e 0x20 || eqb e 0x40 || eqb e 0x80
 unfoldable pub driveInRange : Drive → Bool
 driveInRange d = leb (d .going) 2 && leb (d .kind) 1 && leb (d .fraction) 999 && isPosition (d .target)
 
+-- the position and the settings are in their ranges
+unfoldable pub settingsInRange : Motor → Bool
+settingsInRange m =
+    isPosition (m .place) && limitsInRange (m .limits) && speedsInRange (m .speeds) && wiringInRange (m .wiring)
+    && setupInRange (m .setup)
+
 -- "every field is in its range"
 unfoldable pub inRange : Motor → Bool
-inRange m =
-    isPosition (m .place) && limitsInRange (m .limits) && speedsInRange (m .speeds)
-    && (wiringInRange (m .wiring) && setupInRange (m .setup) && endFlagsInRange (m .ended) && driveInRange (m .drive))
+inRange m = settingsInRange m && endFlagsInRange (m .ended) && driveInRange (m .drive)
 
 -- "a stopped record has zeros in 33..43"
 unfoldable pub atRest : Drive → Bool

@@ -24,7 +24,7 @@ ghost use Prim.Native.Nat.{_≤_};
 ghost use lib.ListN.{length};
 ghost use Rattle.digits.specs.Bytes.{part, allZero};
 ghost use Rattle.motor.specs.Switches.{switchOf, active, blocked, edge, room};
-ghost use Rattle.motor.specs.Sound.{isSpeed, limitsInRange, speedsInRange, wiringInRange, setupInRange};
+ghost use Rattle.motor.specs.Sound.{isSpeed, limitsInRange, speedsInRange, wiringInRange, setupInRange, settingsInRange};
 ghost use Rattle.motor.specs.Sound.{endFlagsInRange, driveInRange, inRange, atRest, aimRight, underWay};
 ghost use Rattle.motor.specs.Sound.{driving, soundMotor, soundRecord};
 
@@ -114,22 +114,27 @@ fn drive_in_range(d: Drive) -> bool
     (d.going <= 2) & (d.kind <= 1) & (d.fraction <= 999) & is_position(d.target)
 }
 
-// Whether every field of a motor is in its range.
-fn in_range(m: Motor) -> bool
-    ensures { λ r. ⌜ r ≡ inRange m ⌝ }
+// Whether the position and the settings of a motor are in their ranges.
+fn settings_in_range(m: Motor) -> bool
+    ensures { λ r. ⌜ r ≡ settingsInRange m ⌝ }
 {
     let limits = m.limits;
     let speeds = m.speeds;
     let wiring = m.wiring;
     let setup = m.setup;
-    let drive = m.drive;
     is_position(m.place)
         & limits_in_range(limits)
         & speeds_in_range(speeds)
-        & (wiring_in_range(wiring)
-            & setup_in_range(setup)
-            & end_flags_in_range(m.ended)
-            & drive_in_range(drive))
+        & wiring_in_range(wiring)
+        & setup_in_range(setup)
+}
+
+// Whether every field of a motor is in its range.
+fn in_range(m: Motor) -> bool
+    ensures { λ r. ⌜ r ≡ inRange m ⌝ }
+{
+    let drive = m.drive;
+    settings_in_range(m) & end_flags_in_range(m.ended) & drive_in_range(drive)
 }
 
 // Whether the drive of a stopped motor is none.
