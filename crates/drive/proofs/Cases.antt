@@ -1,16 +1,17 @@
 -- The rules of a drive computed on cases. Each list is one statement, and its proof is the computation.
 use mathlib.Core.Path.{_≡_, refl}
 use mathlib.Core.List.{List, [], _∷_, map}
-use Prim.Native.Nat.{ℕ, zero, suc, _+_, _-_}
+use mathlib.Core.Bool.{true, false}
+use Prim.Native.Nat.{ℕ, zero, suc, _+_, _*_, _-_}
 use Rattle.digits.specs.Bytes.{part}
-use Rattle.digits.specs.Places.{origin, cw, ccw}
+use Rattle.digits.specs.Places.{origin, highest, cw, ccw}
 use Rattle.record.specs.declared.Motor.{Motor}
 use Rattle.record.specs.Record.{recordOf, freshMotor, withLimits, withSpeeds, withWiring, withSetup}
 use Rattle.drive.specs.declared.Course.the-variants.{Stay, Beyond, To, Along}
 use Rattle.drive.specs.declared.Verdict.the-variants.{Done, NoForm, Busy, OutOfRange, LocalMode, Disabled, SwitchAhead, NoRoom, NotDriving, WrongSize, NotSound}
 use Rattle.drive.specs.Numbers.{numberOf}
-use Rattle.drive.specs.Drives.{courseTo, judgeStart, started, stopped, speedChanged, switchRead, lsend}
-use Rattle.drive.specs.Ticks.{tickMotor, ticks}
+use Rattle.drive.specs.Drives.{courseTo, judgeStart, wellAimed, started, stopped, speedChanged, switchRead, lsend}
+use Rattle.drive.specs.Ticks.{tickMotor, tickCount, ticks, roundedUp}
 use Rattle.drive.specs.Computing.{computing-drive}
 
 -- the pulses of each of k ticks
@@ -95,3 +96,24 @@ numbers :
     ≡ 0 ∷ 1 ∷ 2 ∷ 3 ∷ 4 ∷ 4 ∷ 4 ∷ 4 ∷ 4 ∷ 5 ∷ 6 ∷ []
 unfolding computing-drive
 numbers = refl
+
+-- "CW positive, 0 for a stopped motor": the second tick's count either way, and that of a motor that stands.
+counted :
+    (tickCount (ticks 1 (started freshMotor (Along cw))) ≡ 1) × (tickCount (ticks 1 (started freshMotor (Along ccw))) ≡ 0xffffffff)
+    × (tickCount freshMotor ≡ 0)
+unfolding computing-drive
+counted = (refl, refl, refl)
+
+-- Courses that a start can have, and some that none has: to where the motor stands, to no position, in no direction.
+courses :
+    map (wellAimed freshMotor) (Stay ∷ Beyond ∷ To 1 ∷ To highest ∷ Along cw ∷ Along ccw ∷ To origin ∷ To 0 ∷ Along 0 ∷ Along 3 ∷ [])
+    ≡ true ∷ true ∷ true ∷ true ∷ true ∷ true ∷ false ∷ false ∷ false ∷ false ∷ []
+unfolding computing-drive
+courses = refl
+
+-- "rounded up": 3 pulses at 800 pps take 4 ticks, 4 take 5, and one pulse at the highest speed takes one.
+lasts : map (λ d. roundedUp (d * 1000) 800) (1 ∷ 3 ∷ 4 ∷ []) ≡ 2 ∷ 4 ∷ 5 ∷ []
+lasts = refl
+
+last-of-all : (roundedUp 1000 5000000 ≡ 1) × (roundedUp 5000000000 5000000 ≡ 1000) × (roundedUp 1000 1 ≡ 1000)
+last-of-all = (refl, refl, refl)

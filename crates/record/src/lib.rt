@@ -76,6 +76,7 @@ fn place_at(b: &[u8], at: usize) -> u32
     place_of(long_at(b, at))
 }
 
+// The topics of a record, each from its own bytes.
 fn read_limits(b: &[u8]) -> Limits
     requires { ⌜ length (now b) ≡ 64 ⌝ }
     ensures { λ r. ⌜ r ≡ limitsOf (now (b .entry)) ⌝ }
@@ -164,6 +165,7 @@ fn put_place(b: &mut [u8], at: usize, p: u32)
     put_long(b, at, word_of(p))
 }
 
+// The topics again, each into its own bytes; every other byte stays as it is.
 fn put_limits(b: &mut [u8], l: Limits)
     requires { ⌜ length (now b) ≡ 64 ⌝ }
     ensures { λ r. ⌜ now (b .exit) ≡ put (now (b .entry)) 4 (limitBytes l) ⌝ }
