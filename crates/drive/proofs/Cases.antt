@@ -112,8 +112,7 @@ unfolding computing-drive
 courses = refl
 
 -- "rounded up": 3 pulses at 800 pps take 4 ticks, 4 take 5, and one pulse at the highest speed takes one.
-lasts : map (λ d. roundedUp (d * 1000) 800) (1 ∷ 3 ∷ 4 ∷ []) ≡ 2 ∷ 4 ∷ 5 ∷ []
-lasts = refl
-
-last-of-all : (roundedUp 1000 5000000 ≡ 1) × (roundedUp 5000000000 5000000 ≡ 1000) × (roundedUp 1000 1 ≡ 1000)
-last-of-all = (refl, refl, refl)
+lasts :
+    (map (λ d. roundedUp (d * 1000) 800) (1 ∷ 3 ∷ 4 ∷ []) ≡ 2 ∷ 4 ∷ 5 ∷ []) × (roundedUp 1000 5000000 ≡ 1)
+    × (roundedUp 5000000000 5000000 ≡ 1000) × (roundedUp 1000 1 ≡ 1000)
+lasts = (refl, refl, refl, refl)

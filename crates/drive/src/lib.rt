@@ -5,6 +5,8 @@
 use digits::choose;
 use digits::places::CCW;
 use digits::places::CW;
+use digits::places::HIGHEST;
+use digits::places::LOWEST;
 use digits::places::ORIGIN;
 use digits::places::place_ahead;
 use digits::places::pulses_ahead;
@@ -17,7 +19,7 @@ use record::Motor;
 use record::Speeds;
 use record::Wiring;
 ghost use mathlib.Core.Path.{_≡_};
-ghost use Prim.Native.Nat.{_+_, _<_};
+ghost use Prim.Native.Nat.{_+_, _^_, _<_};
 ghost use Rattle.record.specs.Record.{withPlace, withWiring, withDrive};
 ghost use Rattle.drive.specs.Drives.{speedNumbered, courseTo, towards, hindrance, judgeStart, launched, started};
 ghost use Rattle.drive.specs.Drives.{endedWith, stopped, judgeSpeedChange, speedChanged, contacted, switchRead};
@@ -90,9 +92,9 @@ pub fn course_to(m: Motor, going: u8, p: u32, n: u32) -> Course
     let to = place_ahead(going, p, n);
     if to == m.place as u64 {
         Course::Stay
-    } else if to < 1 {
+    } else if to < LOWEST as u64 {
         Course::Beyond
-    } else if to <= 4294967295 {
+    } else if to <= HIGHEST as u64 {
         Course::To(to as u32)
     } else {
         Course::Beyond
@@ -236,7 +238,7 @@ fn tick_speed(m: Motor) -> u32
 
 // The fraction and the speed together, in thousandths of a pulse.
 fn thousandths(m: Motor) -> u64
-    ensures { λ r. ⌜ (r ≡ m .drive .fraction + tickSpeed m) × (r < 4295032832) ⌝ }
+    ensures { λ r. ⌜ (r ≡ m .drive .fraction + tickSpeed m) × (r < 2 ^ 32 + 2 ^ 16) ⌝ }
 {
     (m.drive.fraction as u64) + (tick_speed(m) as u64)
 }

@@ -10,8 +10,14 @@ place-ahead-requires c κs = search needs
 cast-if1 : tie.Need-cast-if1
 cast-if1 c = search needs
 
-cast-t13 : tie.Need-cast-t13
-cast-t13 c = search needs
+cast-if2 : tie.Need-cast-if2
+cast-if2 c = search needs
+
+cast-if3 : tie.Need-cast-if3
+cast-if3 c = search needs
+
+cast-t15 : tie.Need-cast-t15
+cast-t15 c = search needs
 
 returns : tie.Need-returns
 unfolding courseTo
@@ -32,4 +38,13 @@ returns-4 c = rw (← c .before .before .before .before .place-ahead .ensures, n
 pub course-to-spec : {M : Type 1} → statement M
 course-to-spec =
     tie.close
-    (tie.spec place-ahead-requires cast-if1 cast-t13 returns returns-2 returns-3 returns-4)
+    (tie.spec
+    place-ahead-requires
+    cast-if1
+    cast-if2
+    cast-if3
+    cast-t15
+    returns
+    returns-2
+    returns-3
+    returns-4)
