@@ -9,7 +9,7 @@ use lib.ListN.{length, take, drop, getD, length-append, length-take, length-drop
 use lib.Dec.{eqb}
 use borrow.Author.Tests.{eqb-true}
 use lib.Seq.{getD-drop, drop-cons, drop-drop, drop-length, take-add, take-at, take-length, drop-at, length-take-le, sets, sets-eq}
-use Rattle.digits.specs.Bytes.{part, put, joined, allZero}
+use Rattle.digits.specs.Bytes.{AllBytes, part, joined, allZero}
 use Rattle.digits.specs.Words.{word}
 
 -- A part has the bytes that it is to have, where the buffer has them.
@@ -32,10 +32,12 @@ abbrev pub cut : List ℕ → ℕ → List ℕ → List (List ℕ)
 cut s at [] = []
 cut s at (w ∷ ws) = part s at w ∷ cut s (at + w) ws
 
+-- the sum of widths
 abbrev pub total : List ℕ → ℕ
 total [] = 0
 total (w ∷ ws) = w + total ws
 
+-- Parts one after the other are one part.
 pub cut-joined : (ws : List ℕ) (s : List ℕ) (at : ℕ) → joined (cut s at ws) ≡ part s at (total ws)
 unfolding joined
 cut-joined [] s at = unfold part in refl
@@ -53,13 +55,13 @@ zero-append [] b = refl
 zero-append (x ∷ a) b = rw (zero-append a b, and-assoc)
 
 -- The bytes of a part are bytes of the buffer.
-front-bytes : (n : ℕ) (s : List ℕ) → ((k : ℕ) → getD s k 0 < 256) → (k : ℕ) → getD (take n s) k 0 < 256
+front-bytes : (n : ℕ) (s : List ℕ) → AllBytes s → AllBytes (take n s)
 front-bytes zero s h k = omega arith
 front-bytes (suc n) [] h k = h k
 front-bytes (suc n) (b ∷ s) h zero = h zero
 front-bytes (suc n) (b ∷ s) h (suc k) = front-bytes n s (λ j. h (suc j)) k
 
-pub part-bytes : (s : List ℕ) (at n : ℕ) → ((k : ℕ) → getD s k 0 < 256) → (k : ℕ) → getD (part s at n) k 0 < 256
+pub part-bytes : (s : List ℕ) (at n : ℕ) → AllBytes s → AllBytes (part s at n)
 unfolding part
 part-bytes s at n h k = front-bytes n (drop at s) (λ j. rw (getD-drop at s j 0) (h (at + j))) k
 
@@ -73,19 +75,19 @@ zero-bytes (b ∷ s) e =
     rw (p, ← zero-bytes s (both .1))
 
 -- Two runs of bytes, one after the other, are bytes.
-pub append-bytes : (a b : List ℕ) → ((k : ℕ) → getD a k 0 < 256) → ((k : ℕ) → getD b k 0 < 256) → (k : ℕ) → getD (a ++ b) k 0 < 256
+pub append-bytes : (a b : List ℕ) → AllBytes a → AllBytes b → AllBytes (a ++ b)
 append-bytes [] b f g k = g k
 append-bytes (x ∷ a) b f g zero = f zero
 append-bytes (x ∷ a) b f g (suc k) = append-bytes a b (λ j. f (suc j)) g k
 
-pub cons-bytes : (x : ℕ) (s : List ℕ) → x < 256 → ((k : ℕ) → getD s k 0 < 256) → (k : ℕ) → getD (x ∷ s) k 0 < 256
+pub cons-bytes : (x : ℕ) (s : List ℕ) → x < 256 → AllBytes s → AllBytes (x ∷ s)
 cons-bytes x s h f zero = h
 cons-bytes x s h f (suc k) = f k
 
-pub none-bytes : (k : ℕ) → getD [] k 0 < 256
+pub none-bytes : AllBytes []
 none-bytes k = omega arith
 
-pub zeros-bytes : (n k : ℕ) → getD (replicate n 0) k 0 < 256
+pub zeros-bytes : (n : ℕ) → AllBytes (replicate n 0)
 zeros-bytes zero k = none-bytes k
 zeros-bytes (suc n) zero = omega arith
 zeros-bytes (suc n) (suc k) = zeros-bytes n k

@@ -76,6 +76,7 @@ abbrev pub lay : List ℕ → ℕ → List (List ℕ) → List ℕ
 lay s at [] = s
 lay s at (b ∷ bs) = lay (put s at b) (at + length b) bs
 
+-- Runs written one after the other are all written at once.
 pub lay-put : (bs : List (List ℕ)) (s : List ℕ) (at : ℕ) → at + length (joined bs) ≤ length s → lay s at bs ≡ put s at (joined bs)
 unfolding joined
 lay-put [] s at h = sym (put-none s at)

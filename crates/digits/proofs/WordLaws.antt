@@ -8,7 +8,7 @@ use native.Mathlib.Omega.{arith}
 use lib.ListN.{length, getD}
 use lib.Dec.{eqb}
 use borrow.Author.Tests.{eqb-true, eqb-false, eq-eqb, ne-eqb}
-use Rattle.digits.specs.Bytes.{part, allZero}
+use Rattle.digits.specs.Bytes.{AllBytes, part, allZero}
 use Rattle.digits.specs.Words.{word, wordBytes}
 use Rattle.digits.proofs.PartLaws.{part-add, part-length, zero-append}
 
@@ -38,7 +38,7 @@ pub word-part : (s : List ℕ) (at m n : ℕ) → at + m ≤ length s
 word-part s at m n h = rw (part-add s at m n, word-append (part s at m) (part s (at + m) n), part-length s at m h)
 
 -- Bytes are the bytes that the number they stand for is written in, if each of them is a byte.
-pub bytes-word : (w : ℕ) (s : List ℕ) → length s ≡ w → ((k : ℕ) → getD s k 0 < 256) → wordBytes w (word s) ≡ s
+pub bytes-word : (w : ℕ) (s : List ℕ) → length s ≡ w → AllBytes s → wordBytes w (word s) ≡ s
 unfolding word wordBytes
 bytes-word zero [] e h = refl
 bytes-word zero (b ∷ s) e h = absurd (suc-ne-zero _ e)
@@ -50,7 +50,7 @@ bytes-word (suc w) (b ∷ s) e h =
     rw (low, high, bytes-word w s (suc-inj e) (λ k. h (suc k)))
 
 -- A word is below what its width can hold.
-pub word-below : (w : ℕ) (s : List ℕ) → length s ≡ w → ((k : ℕ) → getD s k 0 < 256) → word s < 256 ^ w
+pub word-below : (w : ℕ) (s : List ℕ) → length s ≡ w → AllBytes s → word s < 256 ^ w
 unfolding word
 word-below zero [] e h = omega arith
 word-below zero (b ∷ s) e h = absurd (suc-ne-zero _ e)
@@ -80,7 +80,7 @@ pub zero-part : (s : List ℕ) (at m n : ℕ) → allZero (part s at (m + n)) �
 zero-part s at m n = rw (part-add s at m n, zero-append (part s at m) (part s (at + m) n), word-zero (part s at m))
 
 -- The bytes that a number is written in are bytes.
-pub word-bytes-bytes : (w n k : ℕ) → getD (wordBytes w n) k 0 < 256
+pub word-bytes-bytes : (w n : ℕ) → AllBytes (wordBytes w n)
 unfolding wordBytes
 word-bytes-bytes zero n k = omega arith
 word-bytes-bytes (suc w) n zero = omega arith

@@ -1,9 +1,13 @@
 -- Buffers: a lent buffer is the list of its bytes, and these few words say what is read from it and written to it.
-use Prim.Native.Nat.{ℕ, zero, suc, _+_}
+use Prim.Native.Nat.{ℕ, zero, suc, _+_, _<_}
 use mathlib.Core.List.{List, [], _∷_, _++_}
 use mathlib.Core.Bool.{Bool, true, _&&_}
-use lib.ListN.{length, take, drop}
+use lib.ListN.{length, take, drop, getD}
 use lib.Dec.{eqb}
+
+-- every number of a list is a byte, as those of a buffer are
+abbrev pub AllBytes : List ℕ → Type 0
+AllBytes s = (k : ℕ) → getD s k 0 < 256
 
 -- the n bytes that stand from `at` on
 unfoldable pub part : List ℕ → ℕ → ℕ → List ℕ

@@ -28,14 +28,14 @@ pub fn is_position(p: u32) -> bool
 pub fn place_of(w: u32) -> u32
     ensures { λ r. ⌜ r ≡ placeOf w ⌝ }
 {
-    std::num::wrapping_add_u32(w, 2147483648)
+    std::num::wrapping_add_u32(w, ORIGIN)
 }
 
 // The word of four bytes for a place.
 pub fn word_of(p: u32) -> u32
     ensures { λ r. ⌜ r ≡ wordOf p ⌝ }
 {
-    std::num::wrapping_add_u32(p, 2147483648)
+    std::num::wrapping_add_u32(p, ORIGIN)
 }
 
 // How many pulses q lies ahead of p in a direction; none where it does not lie ahead.

@@ -7,7 +7,7 @@ use native.Mathlib.Omega.{arith}
 use lib.ListN.{length, getD}
 use lib.Dec.{eqb}
 use borrow.Author.Tests.{eqb-true}
-use Rattle.digits.specs.Bytes.{part, allZero}
+use Rattle.digits.specs.Bytes.{AllBytes, part, allZero}
 use Rattle.record.specs.declared.Motor.{Motor}
 use Rattle.record.specs.Record.{motorOf, recordOf}
 use Rattle.record.proofs.RoundTrip.{FitsRecord, FitsBytes, written-read, read-written, record-length, record-bytes, rest-part}
@@ -34,7 +34,7 @@ pub sound-written-read : (m : Motor) → soundMotor m ≡ true → motorOf (reco
 sound-written-read m s = written-read m (sound-fits m s)
 
 -- Sound bytes that are read and written back are the same bytes.
-pub sound-read-written : (b : List ℕ) → soundRecord b ≡ true → ((k : ℕ) → getD b k 0 < 256) → recordOf (motorOf b) ≡ b
+pub sound-read-written : (b : List ℕ) → soundRecord b ≡ true → AllBytes b → recordOf (motorOf b) ≡ b
 unfolding soundRecord
 sound-read-written b s bytes =
     read-written b (eqb-true (length b) 64 (and-l _ _ (and-l _ (allZero (part b 44 20)) s))) bytes (and-r (eqb (length b) 64 && soundMotor (motorOf b)) _ s)
@@ -44,7 +44,7 @@ pub record-sound : (m : Motor) → soundMotor m ≡ true → soundRecord (record
 unfolding soundRecord allZero
 record-sound m s = rw (record-length m, sound-written-read m s, s, rest-part m)
 
-pub sound-record-bytes : (m : Motor) → soundMotor m ≡ true → (k : ℕ) → getD (recordOf m) k 0 < 256
+pub sound-record-bytes : (m : Motor) → soundMotor m ≡ true → AllBytes (recordOf m)
 sound-record-bytes m s = record-bytes m (sound-fits-bytes m s)
 
 pub record-motor-sound : (b : List ℕ) → soundRecord b ≡ true → soundMotor (motorOf b) ≡ true

@@ -7,12 +7,15 @@ use Prim.Native.Nat.{ℕ, zero, suc, _+_, _≤_, _<_}
 use native.Mathlib.Omega.{arith}
 use lib.ListN.{length, getD, replicate}
 use lib.Seq.{getD-take, getD-drop}
-use Rattle.digits.specs.Bytes.{part, joined, allZero}
+use Rattle.digits.specs.Bytes.{AllBytes, part, joined, allZero}
 use Rattle.digits.specs.Words.{word, wordBytes}
 use Rattle.digits.specs.Places.{placeOf, wordOf}
 use Rattle.digits.proofs.PartLaws.{append-bytes, cons-bytes, none-bytes, zeros-bytes, part-length, part-add, part-bytes, part-one, zero-bytes, part-whole, cut-joined}
 use Rattle.digits.proofs.WordLaws.{word-bytes, bytes-word, word-below, word-bytes-bytes}
 use Rattle.digits.proofs.Signed.{place-bytes, word-place}
+use Rattle.record.specs.declared.Limits.{Limits}
+use Rattle.record.specs.declared.Speeds.{Speeds}
+use Rattle.record.specs.declared.Drive.{Drive}
 use Rattle.record.specs.declared.Motor.{Motor}
 use Rattle.record.specs.Record.{byteAt, shortAt, longAt, placeAt, limitsOf, speedsOf, wiringOf, setupOf, driveOf, motorOf, placeBytes, limitBytes, speedBytes, wiringBytes, setupBytes, settingBytes, driveBytes, recordOf, standing}
 
@@ -73,16 +76,31 @@ pub record FitsBytes (m : Motor) : Type 0 where
   pub going : m .drive .going < 256
   pub kind : m .drive .kind < 256
 
-setting-bytes : (m : Motor) → FitsBytes m → (k : ℕ) → getD (settingBytes m) k 0 < 256
-unfolding settingBytes joined
-setting-bytes m f = search (append-bytes, cons-bytes, none-bytes, word-bytes-bytes) depth 16
+limit-bytes : (l : Limits) → AllBytes (limitBytes l)
+unfolding joined
+limit-bytes l = search (word-bytes-bytes, none-bytes, append-bytes) depth 8
 
-pub record-bytes : (m : Motor) → FitsBytes m → (k : ℕ) → getD (recordOf m) k 0 < 256
+speed-bytes : (v : Speeds) → v .selected < 256 → AllBytes (speedBytes v)
+unfolding joined
+speed-bytes v h = search (word-bytes-bytes, none-bytes, cons-bytes, append-bytes) depth 8
+
+drive-bytes : (d : Drive) → d .going < 256 → d .kind < 256 → AllBytes (driveBytes d)
+unfolding joined
+drive-bytes d g k = search (word-bytes-bytes, none-bytes, cons-bytes, append-bytes) depth 8
+
+setting-bytes : (m : Motor) → FitsBytes m → AllBytes (settingBytes m)
+unfolding settingBytes joined
+setting-bytes m f =
+    append-bytes (placeBytes (m .place)) _ (word-bytes-bytes 4 (wordOf (m .place)))
+    (append-bytes (limitBytes (m .limits)) _ (limit-bytes (m .limits))
+    (append-bytes (speedBytes (m .speeds)) _ (speed-bytes (m .speeds) (f .selected)) (search (none-bytes, cons-bytes) depth 8)))
+
+pub record-bytes : (m : Motor) → FitsBytes m → AllBytes (recordOf m)
 unfolding recordOf joined
-record-bytes m f = search (append-bytes, cons-bytes, none-bytes, word-bytes-bytes, zeros-bytes, setting-bytes) depth 16
+record-bytes m f = search (setting-bytes, drive-bytes, zeros-bytes, none-bytes, cons-bytes, append-bytes) depth 12
 
 -- Bytes of a record, each below 256, as the bytes of a buffer are.
-module _ (b : List ℕ) (whole : length b ≡ 64) (bytes : (k : ℕ) → getD b k 0 < 256) where
+module _ (b : List ℕ) (whole : length b ≡ 64) (bytes : AllBytes b) where
   -- A field's bytes are those that its number is written in.
   word-back : (at n : ℕ) → at + n ≤ 64 → wordBytes n (word (part b at n)) ≡ part b at n
   word-back at n h = bytes-word n (part b at n) (part-length b at n (omega arith)) (part-bytes b at n bytes)
