@@ -20,7 +20,7 @@ use Rattle.digits.specs.Text.{isDigit, digitValue, digitByte, digitsAtFr
 use Rattle.digits.specs.Text.{lastDigits, powersUpTo, digitCount, decimal, distance, signedDecimal}
 use Rattle.digits.proofs.PutLaws.{put-more}
 
--- READING, a byte at a time. A digit counts one more; any other byte, and the end, ends the count.
+-- Reading, a byte at a time: a digit counts one more; any other byte, and the end, ends the count.
 pub digits-more : (s : List ℕ) (i : ℕ) → i < length s → isDigit (getD s i 0) ≡ true
     → digitsAtFront (drop i s) ≡ 1 + digitsAtFront (drop (i + 1) s)
 unfolding digitsAtFront
@@ -110,7 +110,7 @@ number-found s v n e = go (leb 1 (digitsAtFront s) && leb (digitsAtFront s) 10) 
         }
     go false p e = let z : _≡_ {A = ℕ} 0 1 = cc in absurd (omega arith)
 
--- COUNTING the digits of a number, a power of ten at a time.
+-- Counting the digits of a number, a power of ten at a time.
 one-small : (t : Bool) → cond t 1 0 ≤ 1
 one-small true = omega arith
 one-small false = omega arith
@@ -129,7 +129,7 @@ pub digit-count-within : (n : ℕ) → (1 ≤ digitCount n) × (digitCount n ≤
 unfolding digitCount
 digit-count-within n = omega (arith, powers-within 9 n)
 
--- WRITING, from the last digit to the first.
+-- Writing, from the last digit to the first.
 pub last-digits-more : (j n : ℕ) → lastDigits (suc j) n ≡ digitByte (n / 10 ^ j % 10) ∷ lastDigits j n
 unfolding lastDigits
 last-digits-more zero n = rw (pow-zero 10, div-one n)
@@ -147,7 +147,7 @@ written-more t k i n p q r =
     rw (f, last-digits-more (k - i) n)
     (rw e at (put-more t (lastDigits (k - i) n) (i - 1) (digitByte (n / 10 ^ (k - i) % 10)) (omega arith)))
 
--- LENGTHS.
+-- How long the texts are.
 pub length-last-digits : (k n : ℕ) → length (lastDigits k n) ≡ k
 unfolding lastDigits
 length-last-digits zero n = refl
@@ -168,7 +168,7 @@ decimal-within k n h = omega (arith, length-decimal k n, digit-count-within n .1
 pub signed-within : (k p : ℕ) → k ≤ 10 → length (signedDecimal k p) ≤ 11
 signed-within k p h = omega (arith, length-signed k p, decimal-within k (distance p) h)
 
--- READ BACK. Every byte that is written for a number is a digit.
+-- Reading back: every byte that is written for a number is a digit.
 digit-is : (n : ℕ) → n < 10 → isDigit (digitByte n) ≡ true
 digit-is n h = rw (le-leb (code "0") (digitByte n) (omega arith), le-leb (digitByte n) (code "9") (omega arith))
 

@@ -1,3 +1,4 @@
+-- `drive::advance` meets its contract. Assumes nothing.
 use Rattle.drive.proofs.Laws.{given-room}
 use Rattle.drive.specs.Ticks.{given}
 use Rattle.motor.proofs.Laws.{room-holds}

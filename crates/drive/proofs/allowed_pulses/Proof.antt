@@ -1,3 +1,4 @@
+-- `drive::allowed_pulses` meets its contract. Assumes nothing.
 use borrow.Author.Needs.{needs}
 use Rattle.drive.proofs.allowed_pulses.Statement.{statement}
 use Rattle.drive.proofs.allowed_pulses.Tie as tie

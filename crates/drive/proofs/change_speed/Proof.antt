@@ -1,3 +1,4 @@
+-- `drive::change_speed` meets its contract. Assumes nothing.
 use Rattle.drive.specs.Drives.{speedChanged}
 use borrow.Author.Needs.{needs}
 use Rattle.drive.proofs.change_speed.Statement.{statement}

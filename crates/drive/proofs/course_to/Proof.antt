@@ -1,3 +1,4 @@
+-- `drive::course_to` meets its contract. Assumes nothing.
 use borrow.Author.Tests.{eq-eqb, ne-eqb, le-leb, lt-leb}
 use Rattle.drive.specs.Drives.{courseTo}
 use borrow.Author.Needs.{needs}

@@ -1,3 +1,4 @@
+-- `drive::direction_to` meets its contract. Assumes nothing.
 use Rattle.drive.specs.Drives.{towards}
 use borrow.Author.Tests.{lt-ltb, le-ltb}
 use Rattle.drive.proofs.direction_to.Statement.{statement}

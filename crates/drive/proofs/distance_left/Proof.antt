@@ -1,3 +1,4 @@
+-- `drive::distance_left` meets its contract. Assumes nothing.
 use Rattle.drive.specs.Ticks.{distanceLeft}
 use borrow.Author.Needs.{needs}
 use Rattle.drive.proofs.distance_left.Statement.{statement}

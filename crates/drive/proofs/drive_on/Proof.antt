@@ -1,3 +1,4 @@
+-- `drive::drive_on` meets its contract. Assumes nothing.
 use Rattle.drive.specs.Ticks.{drivenOn}
 use borrow.Author.Needs.{needs}
 use Rattle.drive.proofs.drive_on.Statement.{statement}

@@ -1,3 +1,4 @@
+-- `drive::due_pulses` meets its contract. Assumes nothing.
 use Rattle.drive.specs.Ticks.{due}
 use native.Mathlib.Omega.{arith}
 use borrow.Author.Needs.{needs}

@@ -1,3 +1,4 @@
+-- `drive::given_pulses` meets its contract. Assumes nothing.
 use Rattle.drive.specs.Ticks.{given}
 use borrow.Author.Needs.{needs}
 use Rattle.drive.proofs.given_pulses.Statement.{statement}

@@ -1,3 +1,4 @@
+-- `drive::go_on` meets its contract. Assumes nothing.
 use borrow.Author.Needs.{needs}
 use Rattle.drive.proofs.go_on.Statement.{statement}
 use Rattle.drive.proofs.go_on.Tie as tie

@@ -1,3 +1,4 @@
+-- `drive::hindrance_to` meets its contract. Assumes nothing.
 use borrow.Author.Tests.{eq-eqb, ne-eqb}
 use Rattle.drive.specs.Drives.{hindrance}
 use borrow.Author.Needs.{needs}

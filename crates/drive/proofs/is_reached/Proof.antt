@@ -1,3 +1,4 @@
+-- `drive::is_reached` meets its contract. Assumes nothing.
 use Rattle.drive.specs.Ticks.{reached}
 use borrow.Author.Needs.{needs}
 use Rattle.drive.proofs.is_reached.Statement.{statement}

@@ -1,3 +1,4 @@
+-- `drive::is_used_up` meets its contract. Assumes nothing.
 use Rattle.drive.specs.Ticks.{usedUp}
 use borrow.Author.Needs.{needs}
 use Rattle.drive.proofs.is_used_up.Statement.{statement}

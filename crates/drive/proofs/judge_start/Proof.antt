@@ -1,3 +1,4 @@
+-- `drive::judge_start` meets its contract. Assumes nothing.
 use Rattle.drive.specs.Drives.{judgeStart}
 use borrow.Author.Needs.{needs}
 use Rattle.drive.proofs.judge_start.Statement.{statement}

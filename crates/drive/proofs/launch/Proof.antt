@@ -1,3 +1,4 @@
+-- `drive::launch` meets its contract. Assumes nothing.
 use borrow.Author.Needs.{needs}
 use Rattle.drive.proofs.launch.Statement.{statement}
 use Rattle.drive.proofs.launch.Tie as tie

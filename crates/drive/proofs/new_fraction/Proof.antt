@@ -1,3 +1,4 @@
+-- `drive::new_fraction` meets its contract. Assumes nothing.
 use Rattle.drive.specs.Ticks.{rest}
 use borrow.Author.Needs.{needs}
 use Rattle.drive.proofs.new_fraction.Statement.{statement}

@@ -1,3 +1,4 @@
+-- `drive::read_switches` meets its contract. Assumes nothing.
 use Rattle.drive.specs.Drives.{switchRead}
 use borrow.Author.Needs.{needs}
 use Rattle.drive.proofs.read_switches.Statement.{statement}

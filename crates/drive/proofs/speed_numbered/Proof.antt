@@ -1,3 +1,4 @@
+-- `drive::speed_numbered` meets its contract. Assumes nothing.
 use Rattle.drive.specs.Drives.{speedNumbered}
 use borrow.Author.Needs.{needs}
 use Rattle.drive.proofs.speed_numbered.Statement.{statement}

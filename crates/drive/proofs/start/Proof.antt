@@ -1,3 +1,4 @@
+-- `drive::start` meets its contract. Assumes nothing.
 use Rattle.drive.specs.Drives.{started}
 use borrow.Author.Needs.{needs}
 use Rattle.drive.proofs.start.Statement.{statement}

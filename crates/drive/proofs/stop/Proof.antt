@@ -1,3 +1,4 @@
+-- `drive::stop` meets its contract. Assumes nothing.
 use Rattle.drive.specs.Drives.{stopped}
 use borrow.Author.Needs.{needs}
 use Rattle.drive.proofs.stop.Statement.{statement}

@@ -1,3 +1,4 @@
+-- `drive::tick` meets its contract. Assumes nothing.
 use Rattle.drive.specs.Ticks.{tickMotor}
 use borrow.Author.Needs.{needs}
 use Rattle.drive.proofs.tick.Statement.{statement}

@@ -1,3 +1,4 @@
+-- `drive::tick_speed` meets its contract. Assumes nothing.
 use Rattle.drive.specs.Ticks.{tickSpeed}
 use borrow.Author.Needs.{needs}
 use Rattle.drive.proofs.tick_speed.Statement.{statement}

@@ -1,3 +1,4 @@
+-- `motor::aim_right` meets its contract. Assumes nothing.
 use borrow.Author.Needs.{needs}
 use Rattle.motor.specs.Sound.{aimRight}
 use Rattle.motor.proofs.aim_right.Statement.{statement}

@@ -1,3 +1,4 @@
+-- `motor::at_rest` meets its contract. Assumes nothing.
 use mathlib.Core.Path.{refl}
 use Rattle.motor.specs.Sound.{atRest}
 use Rattle.motor.proofs.at_rest.Statement.{statement}

@@ -1,3 +1,4 @@
+-- `motor::drive_in_range` meets its contract. Assumes nothing.
 use borrow.Author.Needs.{needs}
 use Rattle.motor.specs.Sound.{driveInRange}
 use Rattle.motor.proofs.drive_in_range.Statement.{statement}

@@ -1,3 +1,4 @@
+-- `motor::edge_of` meets its contract. Assumes nothing.
 use borrow.Author.Needs.{needs}
 use Rattle.motor.specs.Switches.{edge}
 use Rattle.motor.proofs.edge_of.Statement.{statement}

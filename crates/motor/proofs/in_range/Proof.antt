@@ -1,3 +1,4 @@
+-- `motor::in_range` meets its contract. Assumes nothing.
 use Rattle.motor.specs.Sound.{inRange}
 use borrow.Author.Needs.{needs}
 use Rattle.motor.proofs.in_range.Statement.{statement}

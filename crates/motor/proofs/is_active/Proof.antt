@@ -1,3 +1,4 @@
+-- `motor::is_active` meets its contract. Assumes nothing.
 use borrow.Author.Needs.{needs}
 use Rattle.motor.specs.Switches.{active}
 use Rattle.motor.proofs.is_active.Statement.{statement}

@@ -1,3 +1,4 @@
+-- `motor::is_blocked` meets its contract. Assumes nothing.
 use borrow.Author.Needs.{needs}
 use Rattle.motor.specs.Switches.{blocked}
 use Rattle.motor.proofs.is_blocked.Statement.{statement}

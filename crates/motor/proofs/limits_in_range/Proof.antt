@@ -1,3 +1,4 @@
+-- `motor::limits_in_range` meets its contract. Assumes nothing.
 use borrow.Author.Needs.{needs}
 use Rattle.motor.specs.Sound.{limitsInRange}
 use Rattle.motor.proofs.limits_in_range.Statement.{statement}

@@ -1,3 +1,4 @@
+-- `motor::rest_zero` meets its contract. Assumes nothing.
 use borrow.Author.Needs.{needs}
 use Rattle.digits.specs.Bytes.{part}
 use Rattle.digits.proofs.WordLaws.{zero-part, word-zero}

@@ -1,3 +1,4 @@
+-- `motor::room_of` meets its contract. Assumes nothing.
 use borrow.Author.Needs.{needs}
 use Rattle.motor.specs.Switches.{room}
 use Rattle.motor.proofs.room_of.Statement.{statement}

@@ -1,3 +1,4 @@
+-- `motor::settings_in_range` meets its contract. Assumes nothing.
 use Rattle.motor.specs.Sound.{settingsInRange}
 use borrow.Author.Needs.{needs}
 use Rattle.motor.proofs.settings_in_range.Statement.{statement}

@@ -1,3 +1,4 @@
+-- `motor::setup_in_range` meets its contract. Assumes nothing.
 use mathlib.Core.Path.{refl}
 use Rattle.motor.specs.Sound.{setupInRange}
 use Rattle.motor.proofs.setup_in_range.Statement.{statement}

@@ -1,3 +1,4 @@
+-- `motor::sound_motor` meets its contract. Assumes nothing.
 use borrow.Author.Needs.{needs}
 use Rattle.motor.specs.Sound.{soundMotor}
 use Rattle.motor.proofs.sound_motor.Statement.{statement}

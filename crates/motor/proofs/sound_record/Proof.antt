@@ -1,3 +1,4 @@
+-- `motor::sound_record` meets its contract. Assumes nothing.
 use borrow.Author.Needs.{needs}
 use borrow.Author.Tests.{eq-eqb, ne-eqb}
 use Rattle.motor.specs.Sound.{soundRecord}

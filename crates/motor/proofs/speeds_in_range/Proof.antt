@@ -1,3 +1,4 @@
+-- `motor::speeds_in_range` meets its contract. Assumes nothing.
 use borrow.Author.Needs.{needs}
 use Rattle.motor.specs.Sound.{speedsInRange}
 use Rattle.motor.proofs.speeds_in_range.Statement.{statement}

@@ -1,3 +1,4 @@
+-- `motor::switch_of` meets its contract. Assumes nothing.
 use native.Mathlib.Omega.{arith}
 use borrow.Author.Tests.{eq-eqb, ne-eqb}
 use Rattle.motor.proofs.switch_of.Statement.{statement}

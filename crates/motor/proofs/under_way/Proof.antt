@@ -1,3 +1,4 @@
+-- `motor::under_way` meets its contract. Assumes nothing.
 use borrow.Author.Needs.{needs}
 use Rattle.motor.specs.Sound.{underWay}
 use Rattle.motor.proofs.under_way.Statement.{statement}

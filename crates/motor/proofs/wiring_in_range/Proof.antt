@@ -1,3 +1,4 @@
+-- `motor::wiring_in_range` meets its contract. Assumes nothing.
 use borrow.Author.Needs.{needs}
 use Rattle.motor.specs.Sound.{wiringInRange}
 use Rattle.motor.proofs.wiring_in_range.Statement.{statement}

@@ -1,3 +1,4 @@
+-- `record::place_at` meets its contract. Assumes nothing.
 use borrow.Author.Needs.{needs}
 use Rattle.record.proofs.place_at.Statement.{statement}
 use Rattle.record.proofs.place_at.Tie as tie

@@ -1,3 +1,4 @@
+-- `record::put_place` meets its contract. Assumes nothing.
 use borrow.Author.Needs.{needs}
 use Rattle.record.proofs.put_place.Statement.{statement}
 use Rattle.record.proofs.put_place.Tie as tie

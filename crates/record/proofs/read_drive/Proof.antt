@@ -1,3 +1,4 @@
+-- `record::read_drive` meets its contract. Assumes nothing.
 use borrow.Author.Needs.{needs}
 use Rattle.record.proofs.read_drive.Statement.{statement}
 use Rattle.record.proofs.read_drive.Tie as tie

@@ -1,3 +1,4 @@
+-- `record::read_limits` meets its contract. Assumes nothing.
 use borrow.Author.Needs.{needs}
 use Rattle.record.proofs.read_limits.Statement.{statement}
 use Rattle.record.proofs.read_limits.Tie as tie

@@ -1,3 +1,4 @@
+-- `record::read_motor` meets its contract. Assumes nothing.
 use borrow.Author.Needs.{needs}
 use Rattle.record.specs.Record.{motorOf}
 use Rattle.record.proofs.read_motor.Statement.{statement}

@@ -1,3 +1,4 @@
+-- `record::read_setup` meets its contract. Assumes nothing.
 use borrow.Author.Needs.{needs}
 use Rattle.record.proofs.read_setup.Statement.{statement}
 use Rattle.record.proofs.read_setup.Tie as tie

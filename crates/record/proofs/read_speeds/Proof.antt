@@ -1,3 +1,4 @@
+-- `record::read_speeds` meets its contract. Assumes nothing.
 use borrow.Author.Needs.{needs}
 use Rattle.record.proofs.read_speeds.Statement.{statement}
 use Rattle.record.proofs.read_speeds.Tie as tie

@@ -1,3 +1,4 @@
+-- `record::read_wiring` meets its contract. Assumes nothing.
 use borrow.Author.Needs.{needs}
 use Rattle.record.proofs.read_wiring.Statement.{statement}
 use Rattle.record.proofs.read_wiring.Tie as tie

@@ -1,3 +1,4 @@
+-- `digits::places::place_ahead` meets its contract. Assumes nothing.
 use borrow.Author.Needs.{needs}
 use borrow.Author.Tests.{eq-eqb, ne-eqb}
 use Rattle.digits.proofs.places.place_ahead.Statement.{statement}

@@ -1,3 +1,4 @@
+-- `digits::places::place_of` meets its contract. Assumes nothing.
 use borrow.Author.Needs.{needs}
 use Rattle.digits.specs.Places.{placeOf}
 use Rattle.digits.proofs.places.place_of.Statement.{statement}

@@ -1,3 +1,4 @@
+-- `digits::places::pulses_ahead` meets its contract. Assumes nothing.
 use borrow.Author.Needs.{needs}
 use Rattle.digits.proofs.places.pulses_ahead.Statement.{statement}
 use Rattle.digits.proofs.places.pulses_ahead.Tie as tie

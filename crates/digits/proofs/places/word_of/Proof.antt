@@ -1,3 +1,4 @@
+-- `digits::places::word_of` meets its contract. Assumes nothing.
 use borrow.Author.Needs.{needs}
 use Rattle.digits.specs.Places.{wordOf}
 use Rattle.digits.proofs.places.word_of.Statement.{statement}

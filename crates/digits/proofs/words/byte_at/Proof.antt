@@ -1,3 +1,4 @@
+-- `digits::words::byte_at` meets its contract. Assumes nothing.
 use borrow.Author.Needs.{needs}
 use native.Mathlib.Omega.{arith}
 use Rattle.digits.specs.Words.{word}

@@ -1,3 +1,4 @@
+-- `digits::words::long_at` meets its contract. Assumes nothing.
 use borrow.Author.Needs.{needs}
 use Rattle.digits.proofs.WordLaws.{word-part}
 use native.Mathlib.Omega.{arith}

@@ -1,3 +1,4 @@
+-- `digits::words::put_short` meets its contract. Assumes nothing.
 use borrow.Author.Needs.{needs}
 use native.Mathlib.Omega.{arith}
 use Prim.Native.Nat.{suc, _+_}
