@@ -1,8 +1,9 @@
 -- The record computed on cases. Each list is one statement, and its proof is the computation.
 use mathlib.Core.Path.{_≡_, refl}
-use mathlib.Core.List.{List}
+use mathlib.Core.List.{List, [], _∷_}
 use Prim.Native.Nat.{ℕ, _+_}
-use lib.ListN.{length}
+use lib.ListN.{length, replicate}
+use Rattle.digits.specs.Bytes.{part}
 use Rattle.digits.specs.Places.{origin, cw}
 use Rattle.record.specs.declared.Motor.{Motor}
 use Rattle.record.specs.Record.{motorOf, recordOf, freshMotor, withDrive}
@@ -25,3 +26,12 @@ round-trip :
     × (length fresh-bytes ≡ 64)
 unfolding computing-record underway fresh-bytes driving-bytes
 round-trip = (refl, refl, refl)
+
+-- Fresh, byte by byte: position 0, limits +1,000,000 (000F4240h) and -1,000,000 (FFF0BDC0h), 1000 (3E8h), 800 (320h), 50
+-- (32h), M, 01110000, contacts open, SETMT 1100, stopped.
+fresh-list :
+    (part fresh-bytes 0 32
+    ≡ 0 ∷ 0 ∷ 0 ∷ 0 ∷ 0x40 ∷ 0x42 ∷ 0x0f ∷ 0x00 ∷ 0xc0 ∷ 0xbd ∷ 0xf0 ∷ 0xff ∷ 0xe8 ∷ 0x03 ∷ 0 ∷ 0 ∷ 0x20 ∷ 0x03 ∷ 0 ∷ 0 ∷ 50 ∷ 0 ∷ 0 ∷ 0 ∷ 1 ∷ 0x70 ∷ 0 ∷ 1 ∷ 1 ∷ 0 ∷ 0 ∷ 0 ∷ [])
+    × (part fresh-bytes 32 32 ≡ replicate 32 0)
+unfolding computing-record fresh-bytes
+fresh-list = (refl, refl)

@@ -7,20 +7,17 @@ use lib.ListN.{length, drop, replicate}
 use Rattle.digits.specs.Bytes.{part, put}
 use Rattle.digits.specs.Places.{origin, cw}
 use Rattle.record.specs.declared.Motor.{Motor}
-use Rattle.record.specs.Record.{freshMotor, withDrive}
+use Rattle.record.specs.Record.{recordOf, freshMotor, withDrive}
 use Rattle.table.specs.Layout.{mode, allReply, errors, withMode, withAllReply, withErrors, recordAt, motorAt, withMotor, withMotors, freshTable}
 use Rattle.table.specs.Sound.{soundTable}
 use Rattle.table.specs.Computing.{computing-table}
 
--- Fresh, byte by byte: a head of zeros, and a record whose numbers are document 01's: position 0, limits +1,000,000
--- (000F4240h) and -1,000,000 (FFF0BDC0h), 1000 (3E8h), 800 (320h), 50 (32h), M, 01110000, contacts open, SETMT 1100, stopped.
+-- Fresh: a head of zeros, sixteen records that are the fresh motor's, and a sound table.
 fresh :
-    (length freshTable ≡ 1088) × (part freshTable 0 64 ≡ replicate 64 0) × (recordAt freshTable 0 ≡ recordAt freshTable 15)
-    × (part freshTable 64 32
-    ≡ 0 ∷ 0 ∷ 0 ∷ 0 ∷ 0x40 ∷ 0x42 ∷ 0x0f ∷ 0x00 ∷ 0xc0 ∷ 0xbd ∷ 0xf0 ∷ 0xff ∷ 0xe8 ∷ 0x03 ∷ 0 ∷ 0 ∷ 0x20 ∷ 0x03 ∷ 0 ∷ 0 ∷ 50 ∷ 0 ∷ 0 ∷ 0 ∷ 1 ∷ 0x70 ∷ 0 ∷ 1 ∷ 1 ∷ 0 ∷ 0 ∷ 0 ∷ [])
-    × (part freshTable 96 32 ≡ replicate 32 0) × (soundTable freshTable ≡ true)
+    (length freshTable ≡ 1088) × (part freshTable 0 64 ≡ replicate 64 0) × (recordAt freshTable 0 ≡ recordOf freshMotor)
+    × (recordAt freshTable 15 ≡ recordOf freshMotor) × (soundTable freshTable ≡ true)
 unfolding computing-table
-fresh = (refl, refl, refl, refl, refl, refl)
+fresh = (refl, refl, refl, refl, refl)
 
 -- a fresh motor that scans CW at 800 pps, and a table whose channel 11 does
 scanning : Motor
