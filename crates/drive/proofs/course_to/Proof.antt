@@ -1,3 +1,5 @@
+use native.Mathlib.Omega.{arith}
+use Prim.Native.Nat.{_≤_, _<_}
 -- `drive::course_to` meets its contract. Assumes nothing.
 use borrow.Author.Tests.{eq-eqb, ne-eqb, le-leb, lt-leb}
 use Rattle.drive.specs.Drives.{courseTo}
@@ -26,15 +28,26 @@ returns c = rw (← c .before .before .place-ahead .ensures, eq-eqb _ _ (c .if1 
 
 returns-2 : tie.Need-returns-2
 unfolding courseTo
-returns-2 c = rw (← c .before .before .before .place-ahead .ensures, ne-eqb _ _ (c .before .if1 .left), lt-leb _ _ (c .if2 .taken))
+returns-2 c =
+    let to = c .before .before .before .place-ahead in
+    let below : to .result < 1 = omega arith in
+    rw (← to .ensures, ne-eqb _ _ (c .before .if1 .left), lt-leb _ _ below)
 
 returns-3 : tie.Need-returns-3
 unfolding courseTo
-returns-3 c = rw (← c .before .before .before .before .place-ahead .ensures, ne-eqb _ _ (c .before .before .if1 .left), le-leb _ _ (c .before .if2 .left), le-leb _ _ (c .if3 .taken))
+returns-3 c =
+    let to = c .before .before .before .before .place-ahead in
+    let low : 1 ≤ to .result = omega arith in
+    let high : to .result ≤ 4294967295 = omega arith in
+    rw (← to .ensures, ne-eqb _ _ (c .before .before .if1 .left), le-leb _ _ low, le-leb _ _ high)
 
 returns-4 : tie.Need-returns-4
 unfolding courseTo
-returns-4 c = rw (← c .before .before .before .before .place-ahead .ensures, ne-eqb _ _ (c .before .before .if1 .left), le-leb _ _ (c .before .if2 .left), lt-leb _ _ (c .if3 .left))
+returns-4 c =
+    let to = c .before .before .before .before .place-ahead in
+    let low : 1 ≤ to .result = omega arith in
+    let above : 4294967295 < to .result = omega arith in
+    rw (← to .ensures, ne-eqb _ _ (c .before .before .if1 .left), le-leb _ _ low, lt-leb _ _ above)
 
 pub course-to-spec : {M : Type 1} → statement M
 course-to-spec =

@@ -1,3 +1,5 @@
+use native.Mathlib.Omega.{arith}
+use mathlib.Core.Path.{_≡_}
 -- `drive::hindrance_to` meets its contract. Assumes nothing.
 use borrow.Author.Tests.{eq-eqb, ne-eqb}
 use Rattle.drive.specs.Drives.{hindrance}
@@ -21,11 +23,15 @@ room-of-requires c κs = search needs
 
 returns-3 : tie.Need-returns-3
 unfolding hindrance
-returns-3 c = rw (ne-eqb _ _ (c .before .before .before .before .if1 .left), ← c .before .before .before .is-blocked .ensures, c .before .before .if2 .left, ← c .before .room-of .ensures, eq-eqb _ _ (c .if3 .taken))
+returns-3 c =
+    let none : c .before .room-of .result ≡ 0 = omega arith in
+    rw (ne-eqb _ _ (c .before .before .before .before .if1 .left), ← c .before .before .before .is-blocked .ensures, c .before .before .if2 .left, ← c .before .room-of .ensures, eq-eqb _ _ none)
 
 returns-4 : tie.Need-returns-4
 unfolding hindrance
-returns-4 c = rw (ne-eqb _ _ (c .before .before .before .before .if1 .left), ← c .before .before .before .is-blocked .ensures, c .before .before .if2 .left, ← c .before .room-of .ensures, ne-eqb _ _ (c .if3 .left))
+returns-4 c =
+    let some : c .before .room-of .result ≡ 0 → ⊥ = c .if3 .left in
+    rw (ne-eqb _ _ (c .before .before .before .before .if1 .left), ← c .before .before .before .is-blocked .ensures, c .before .before .if2 .left, ← c .before .room-of .ensures, ne-eqb _ _ some)
 
 pub hindrance-to-spec : {M : Type 1} → statement M
 hindrance-to-spec =

@@ -1,3 +1,8 @@
+use Rattle.drive.specs.Drives.{contacted}
+use Rattle.motor.specs.Sound.{driving}
+use Rattle.motor.specs.Switches.{blocked}
+use mathlib.Core.Bool.{true, false, _&&_}
+use mathlib.Core.Path.{_≡_}
 -- `drive::read_switches` meets its contract. Assumes nothing.
 use Rattle.drive.specs.Drives.{switchRead}
 use borrow.Author.Needs.{needs}
@@ -19,16 +24,16 @@ end-drive-requires c κs = search needs
 returns : tie.Need-returns
 unfolding switchRead
 returns c =
-    let contacts = c .before .before .before .before .with-contacts .ensures in
-    let hit = rw (c .before .before .before .is-driving .ensures, c .before .before .is-blocked .ensures, contacts) at (c .before .if1 .taken) in
-    rw (hit, c .end-drive .ensures, contacts)
+    let a = c .before .before .before .before .before .args in
+    let hit : (driving (a .m) && blocked (a .m .drive .going) (contacted (a .m) (a .contacts))) ≡ true = cc in
+    rw (hit, c .end-drive .ensures, c .before .before .before .before .with-contacts .ensures)
 
 returns-2 : tie.Need-returns-2
 unfolding switchRead
 returns-2 c =
-    let contacts = c .before .before .before .with-contacts .ensures in
-    let free = rw (c .before .before .is-driving .ensures, c .before .is-blocked .ensures, contacts) at (c .if1 .left) in
-    rw (free, contacts)
+    let a = c .before .before .before .before .args in
+    let free : (driving (a .m) && blocked (a .m .drive .going) (contacted (a .m) (a .contacts))) ≡ false = cc in
+    rw (free, c .before .before .before .with-contacts .ensures)
 
 pub read-switches-spec : {M : Type 1} → statement M
 read-switches-spec =
