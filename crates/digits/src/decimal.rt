@@ -3,7 +3,7 @@
 use crate::places::ORIGIN;
 ghost use mathlib.Core.Path.{_≡_};
 ghost use mathlib.Core.Bool.{cond};
-ghost use Prim.Native.Nat.{_+_, _%_, _≤_, max};
+ghost use Prim.Native.Nat.{_+_, _%_, _≤_, min, max};
 ghost use lib.ListN.{length, drop};
 ghost use Rattle.digits.specs.Bytes.{part, put};
 ghost use Rattle.digits.specs.Text.{isDigit, digitValue, digitByte, digitsAtFront, valueOf, numberAtFront};
@@ -49,14 +49,21 @@ pub fn digits_at(s: &[u8], at: usize) -> usize
     i - at
 }
 
-// What the n digits from `at` on are worth: ten of them fit.
-fn value_at(s: &[u8], at: usize, n: usize) -> u64
-    requires { ⌜ (at + n ≤ length (now s)) × (n ≤ 10) ⌝ }
-    ensures { λ r. ⌜ r ≡ valueOf (part (now (s .entry)) at n) ⌝ }
+fn up_to_ten(n: usize) -> usize
+    ensures { λ r. ⌜ r ≡ min n 10 ⌝ }
 {
+    if n < 10 { n } else { 10 }
+}
+
+// What the n digits from `at` on are worth. No more than ten are taken, since ten fit.
+fn value_at(s: &[u8], at: usize, n: usize) -> u64
+    requires { ⌜ at + n ≤ length (now s) ⌝ }
+    ensures { λ r. ⌜ r ≡ valueOf (part (now (s .entry)) at (min n 10)) ⌝ }
+{
+    let k = up_to_ten(n);
     let mut v: u64 = 0;
     let mut i: usize = 0;
-    while i < n {
+    while i < k {
         v = 10 * v + digit_value(s[at + i]);
         i += 1;
     }

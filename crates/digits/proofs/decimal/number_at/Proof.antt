@@ -1,5 +1,6 @@
 -- `digits::decimal::number_at` meets its contract. Assumes nothing.
-use Prim.Native.Nat.{_≤_}
+use mathlib.Core.Path.{_≡_}
+use Prim.Native.Nat.{_≤_, min}
 use lib.ListN.{drop, length-drop}
 use denote.Ref.{now}
 use native.Mathlib.Omega.{arith}
@@ -19,11 +20,14 @@ value-at-requires c κs =
     let s = now (c .before .before .before .args .s) in
     let at = c .before .before .before .args .at in
     let w : (1 ≤ n) × (n ≤ 10) = between 1 10 n (c .if1 .taken) in
-    (omega (arith, w .0, digits-within (drop at s), length-drop at s, c .before .digits-at .ensures), w .1)
+    omega (arith, w .0, digits-within (drop at s), length-drop at s, c .before .digits-at .ensures)
 
 returns : tie.Need-returns
 unfolding numberAtFront part
-returns c = rw (c .value-at .ensures, ← c .before .before .digits-at .ensures, c .before .if1 .taken)
+returns c =
+    let n = c .before .before .digits-at .result in
+    let ten : min n 10 ≡ n = omega (arith, between 1 10 n (c .before .if1 .taken)) in
+    rw (c .value-at .ensures, ten, ← c .before .before .digits-at .ensures, c .before .if1 .taken)
 
 returns-2 : tie.Need-returns-2
 unfolding numberAtFront

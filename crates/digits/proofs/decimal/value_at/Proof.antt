@@ -15,10 +15,13 @@ use Rattle.digits.proofs.decimal.value_at.Statement.{statement}
 use Rattle.digits.proofs.decimal.value_at.Tie as tie
 
 abbrev Inv-loop : tie.InvT-loop
-Inv-loop s at n v₀ i₀ v i = (i ≤ n) × (v + 23 ≤ 23 * 10 ^ i) × (valueFrom v (part s (at + i) (n - i)) ≡ valueOf (part s at n))
+Inv-loop s at n k v₀ i₀ v i = (i ≤ k) × (v + 23 ≤ 23 * 10 ^ i) × (valueFrom v (part s (at + i) (k - i)) ≡ valueOf (part s at k))
 
 abbrev μ-loop : tie.MeasureT-loop
-μ-loop s at n v₀ i₀ v i = n - i
+μ-loop s at n k v₀ i₀ v i = k - i
+
+up-to-ten-requires : tie.Need-up-to-ten-requires Inv-loop μ-loop
+up-to-ten-requires c κs = search needs
 
 loop-holds : tie.Need-loop-holds Inv-loop μ-loop
 loop-holds c = (omega arith, omega arith, rw (add-zero, sub-zero))
@@ -41,7 +44,7 @@ add-v c =
     omega (
       arith,
       pow-le-pow-right {n = 10} (omega arith) {i = l .i} {j = 9} (omega arith),
-      c .before .shared-slice-known2 .given (c .before .before .before .before .before .args .at + l .i),
+      c .before .shared-slice-known2 .given (c .before .before .before .before .before .before .args .at + l .i),
     )
 
 add-i : tie.Need-add-i Inv-loop μ-loop
@@ -53,19 +56,21 @@ loop-less c = omega arith
 loop-again : tie.Need-loop-again Inv-loop μ-loop
 loop-again c =
     let l = c .before .before .before .loop in
-    let a = c .before .before .before .before .before .args in (
+    let k = c .before .before .before .before .up-to-ten .result in
+    let a = c .before .before .before .before .before .before .args in (
       omega arith,
       rw (add-one (l .i), pow-suc 10 (l .i)) (omega (arith, c .before .shared-slice-known2 .given (a .at + l .i))),
       rw (c .digit-value .ensures)
-          (sym (value-more (now (a .s)) (l .v) (a .at) (a .n) (l .i) (omega arith) (omega arith)) ∙ l .inv .2),
+          (sym (value-more (now (a .s)) (l .v) (a .at) k (l .i) (omega arith) (omega arith)) ∙ l .inv .2),
     )
 
 returns : tie.Need-returns Inv-loop μ-loop
 returns c =
     let l = c .before .loop in
-    let a = c .before .before .before .args in
-    let e : a .n - l .i ≡ 0 = omega arith in
-    sym (value-end (now (a .s)) (l .v) (a .at + l .i)) ∙ (rw e at (l .inv .2))
+    let k = c .before .before .up-to-ten in
+    let a = c .before .before .before .before .args in
+    let e : k .result - l .i ≡ 0 = omega arith in
+    rw (← k .ensures) (sym (value-end (now (a .s)) (l .v) (a .at + l .i)) ∙ (rw e at (l .inv .2)))
 
 pub value-at-spec : {M : Type 1} → statement M
 value-at-spec =
@@ -73,6 +78,7 @@ value-at-spec =
     (tie.spec
     Inv-loop
     μ-loop
+    up-to-ten-requires
     loop-holds
     mul-v
     add-digit-value
