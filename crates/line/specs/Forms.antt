@@ -3,8 +3,8 @@ use Prim.Native.Nat.{ℕ}
 use Prim.Native.String as S
 use mathlib.Core.List.{List, [], _∷_, _++_}
 use mathlib.Core.Bool.{cond}
-use lib.ListN.{length, take, drop}
-use lib.Dec.{leb}
+use lib.ListN.{length, take}
+use lib.Dec.{leb, eqb}
 use Rattle.digits.specs.Text.{bytes, same}
 use Rattle.digits.specs.Places.{cw, ccw}
 use Rattle.line.specs.declared.Fields.{Fields}
@@ -19,7 +19,10 @@ use Rattle.line.specs.declared.Order.the-variants.{Go, Stop, StopAll, Ch
 use Rattle.line.specs.declared.HeadQuestion.the-variants.{AskAllReply, AskFlags, AskError}
 use Rattle.line.specs.declared.Parsed.{Parsed}
 use Rattle.line.specs.declared.Parsed.the-variants.{Is, Nothing}
-use Rattle.line.specs.Shapes.{Got, got, absent, Field, alone, x, x±d, xd, xDYYY0yyy, xABCD, x?, e, noFields, readFields}
+use Rattle.line.specs.declared.Field.{Field}
+use Rattle.line.specs.declared.Got.{Got}
+use Rattle.line.specs.declared.Got.the-variants.{Here, Absent}
+use Rattle.line.specs.Shapes.{alone, x, x±d, xd, xDYYY0yyy, xABCD, x?, e, EN, DS, noFields, readFields}
 
 -- a form: a word, the fields after it, and the order that it is
 pub record Row : Type 0 where
@@ -120,8 +123,8 @@ abbrev pub headRows : List Row
 headRows =
     row "LOC" alone (λ f. Mode 0)
     ∷ row "REM" alone (λ f. Mode 1)
-    ∷ row "ALL_REP EN" alone (λ f. AllReply 1)
-    ∷ row "ALL_REP DS" alone (λ f. AllReply 0)
+    ∷ row "ALL_REP " EN (λ f. AllReply 1)
+    ∷ row "ALL_REP " DS (λ f. AllReply 0)
     ∷ row "ALL_REP?" alone (λ f. AskHead AskAllReply)
     ∷ row "ERRF?" alone (λ f. AskHead AskFlags)
     ∷ row "ERR?" alone (λ f. AskHead AskError)
@@ -130,17 +133,19 @@ headRows =
     ∷ []
 
 -- a line is read whole: nothing follows the fields
-abbrev pub complete : (Fields → Order) → Got → Parsed
-complete o (got f []) = Is (o f)
-complete o (got f (b ∷ s)) = Nothing
-complete o absent = Nothing
+abbrev pub complete : (Fields → Order) → List ℕ → Got → Parsed
+complete o s (Here f at) = cond (eqb at (length s)) (Is (o f)) Nothing
+complete o s Absent = Nothing
+
+-- the order that a row makes of the fields from a place on
+unfoldable pub fieldsAsRow : Row → List ℕ → ℕ → Parsed
+fieldsAsRow r s at = complete (r .order) s (readFields (r .fields) noFields s at)
 
 -- a line has a row's form when it begins with the word, the fields follow, and nothing follows them
 unfoldable pub asRow : Row → List ℕ → Parsed
 asRow r s =
-    cond (same (take (length (r .word)) s) (r .word))
-    (complete (r .order) (readFields (r .fields) noFields (drop (length (r .word)) s)))
-    Nothing
+    let n = length (r .word) in
+    cond (same (take n s) (r .word)) (fieldsAsRow r s n) Nothing
 
 -- all the forms of document 01
 unfoldable pub forms : List Row

@@ -1,28 +1,25 @@
--- Document 01, "Lines": the fields that a line is made of, each read off the front of the bytes that are left, and the shapes
--- that they make.
+-- Document 01, "Lines": the fields that a line is made of, and the shapes that they make. A field is read at a place of the
+-- line and gives the place after it: "The line in hand and the place reached travel together".
 use Prim.Native.Char.{code}
-use Prim.Native.Nat.{ℕ}
+use Prim.Native.Nat.{ℕ, _+_}
 use mathlib.Core.List.{List, [], _∷_}
 use mathlib.Core.Bool.{Bool, true, false, _&&_, cond}
-use lib.ListN.{take, drop, getD}
+use lib.ListN.{drop, getD}
 use lib.Dec.{leb, eqb}
-use Rattle.digits.specs.Text.{isHex, hexValue, digitValue, digitsAtFront, valueOf}
+use Rattle.digits.specs.Text.{isDigit, isHex, hexValue, digitValue, digitsAtFront, numberAtFront}
+use Rattle.digits.specs.declared.decimal.Number.{Number}
+use Rattle.digits.specs.declared.decimal.Number.the-variants.{Nothing, Read}
 use Rattle.line.specs.declared.Four.{Four}
 use Rattle.line.specs.declared.Fields.{Fields}
-
--- what reading a field gives: the fields so far and the bytes after it, or that it is not there
-pub data Got : Type 0 where
-  got : Fields → List ℕ → Got
-  absent : Got
+use Rattle.line.specs.declared.Field.{Field}
+use Rattle.line.specs.declared.Field.the-variants.{Channel, Signed, Unsigned, Digit, Question, FourDigits, ZeroThree, Enable, Disable, End, Never}
+use Rattle.line.specs.declared.Got.{Got}
+use Rattle.line.specs.declared.Got.the-variants.{Here, Absent}
 
 -- a field that is there if a test holds
-abbrev pub gotIf : Bool → Fields → List ℕ → Got
-gotIf true f s = got f s
-gotIf false f s = absent
-
--- the kinds of field: x; ±d; d; e; the ? of STSx?; four digits, as DYYY and ABCD; the 0yyy of SETLS
-pub data Field : Type 0 where
-  channel signed number digit question four zeroThree : Field
+abbrev pub gotIf : Bool → Fields → ℕ → Got
+gotIf true f at = Here f at
+gotIf false f at = Absent
 
 -- What follows a word, each shape named as document 01 writes it. Nothing, as in `ASSTP`:
 abbrev pub alone : List Field
@@ -30,31 +27,39 @@ alone = []
 
 -- as in `SCANPx`
 abbrev pub x : List Field
-x = channel ∷ []
+x = Channel ∷ []
 
 -- as in `ABSx±d`
 abbrev pub x±d : List Field
-x±d = channel ∷ signed ∷ []
+x±d = Channel ∷ Signed ∷ []
 
 -- as in `SPCxd`
 abbrev pub xd : List Field
-xd = channel ∷ number ∷ []
+xd = Channel ∷ Unsigned ∷ []
 
 -- as in `SETLSxDYYY0yyy`
 abbrev pub xDYYY0yyy : List Field
-xDYYY0yyy = channel ∷ four ∷ zeroThree ∷ []
+xDYYY0yyy = Channel ∷ FourDigits ∷ ZeroThree ∷ []
 
 -- as in `SETMTxABCD`
 abbrev pub xABCD : List Field
-xABCD = channel ∷ four ∷ []
+xABCD = Channel ∷ FourDigits ∷ []
 
 -- as in `STSx?`
 abbrev pub x? : List Field
-x? = channel ∷ question ∷ []
+x? = Channel ∷ Question ∷ []
 
 -- as in `ERRCe`
 abbrev pub e : List Field
-e = digit ∷ []
+e = Digit ∷ []
+
+-- as in `ALL_REP EN`
+abbrev pub EN : List Field
+EN = Enable ∷ []
+
+-- as in `ALL_REP DS`
+abbrev pub DS : List Field
+DS = Disable ∷ []
 
 -- no field yet
 abbrev pub noFields : Fields
@@ -82,63 +87,78 @@ withFirst f q = record { channel = f .channel; written = f .written; first = q; 
 abbrev pub withSecond : Fields → Four → Fields
 withSecond f q = record { channel = f .channel; written = f .written; first = f .first; second = q }
 
--- "x is one of 0-9, A-F"
-unfoldable pub readChannel : Fields → List ℕ → Got
-readChannel f [] = absent
-readChannel f (b ∷ s) = gotIf (isHex b) (withChannel f (hexValue b)) s
+-- the byte at a place of a line; 0, which no form has, where the line has ended
+abbrev pub byteAt : List ℕ → ℕ → ℕ
+byteAt s at = getD s at 0
 
--- "d: 1 to 10 digits", as many as stand there
-unfoldable pub readNumber : Bool → Fields → List ℕ → Got
-readNumber minus f s =
-    let n = digitsAtFront s in
-    gotIf (leb 1 n && leb n 10) (withWritten f minus (valueOf (take n s))) (drop n s)
+-- the digit at a place of a line
+abbrev pub digitAt : List ℕ → ℕ → ℕ
+digitAt s at = digitValue (byteAt s at)
+
+-- "x is one of 0-9, A-F"
+unfoldable pub readChannel : Fields → List ℕ → ℕ → Got
+readChannel f s at = gotIf (isHex (byteAt s at)) (withChannel f (hexValue (byteAt s at))) (at + 1)
+
+-- a number that was found from a place on
+abbrev pub numbered : Bool → Fields → ℕ → Number → Got
+numbered minus f at (Read n count) = Here (withWritten f minus n) (at + count)
+numbered minus f at Nothing = Absent
+
+-- "d: 1 to 10 digits"
+unfoldable pub readNumber : Bool → Fields → List ℕ → ℕ → Got
+readNumber minus f s at = numbered minus f at (numberAtFront (drop at s))
 
 -- "±d: a sign, then 1 to 10 digits"
-unfoldable pub readSigned : Fields → List ℕ → Got
-readSigned f [] = absent
-readSigned f (b ∷ s) = cond (eqb b (code "+")) (readNumber false f s) (cond (eqb b (code "-")) (readNumber true f s) absent)
-
--- the digit that stands at a place of a text
-abbrev pub digitAt : List ℕ → ℕ → ℕ
-digitAt s n = digitValue (getD s n (code "0"))
+unfoldable pub readSigned : Fields → List ℕ → ℕ → Got
+readSigned f s at =
+    cond (eqb (byteAt s at) (code "+"))
+    (readNumber false f s (at + 1))
+    (cond (eqb (byteAt s at) (code "-")) (readNumber true f s (at + 1)) Absent)
 
 -- "e one digit"
-unfoldable pub readDigit : Fields → List ℕ → Got
-readDigit f s = gotIf (leb 1 (digitsAtFront s)) (withWritten f false (digitAt s 0)) (drop 1 s)
+unfoldable pub readDigit : Fields → List ℕ → ℕ → Got
+readDigit f s at = gotIf (isDigit (byteAt s at)) (withWritten f false (digitAt s at)) (at + 1)
 
 -- "`STSx?`": the question mark
-unfoldable pub readQuestion : Fields → List ℕ → Got
-readQuestion f [] = absent
-readQuestion f (b ∷ s) = gotIf (eqb b (code "?")) f s
+unfoldable pub readQuestion : Fields → List ℕ → ℕ → Got
+readQuestion f s at = gotIf (eqb (byteAt s at) (code "?")) f (at + 1)
 
--- the four digits at the front of a text
-abbrev pub fourOf : List ℕ → Four
-fourOf s = record { a = digitAt s 0; b = digitAt s 1; c = digitAt s 2; d = digitAt s 3 }
+-- "`ALL_REP EN`, `ALL_REP DS`": two letters
+unfoldable pub readLetters : ℕ → ℕ → Fields → List ℕ → ℕ → Got
+readLetters a b f s at = gotIf (eqb (byteAt s at) a && eqb (byteAt s (at + 1)) b) f (at + 2)
+
+-- the four digits from a place on
+abbrev pub fourOf : List ℕ → ℕ → Four
+fourOf s at = record { a = digitAt s at; b = digitAt s (at + 1); c = digitAt s (at + 2); d = digitAt s (at + 3) }
 
 -- "In SETLS and SETMT each letter after x is one decimal digit"
-unfoldable pub readFour : Fields → List ℕ → Got
-readFour f s = gotIf (leb 4 (digitsAtFront s)) (withFirst f (fourOf s)) (drop 4 s)
+unfoldable pub readFour : Fields → List ℕ → ℕ → Got
+readFour f s at = gotIf (leb 4 (digitsAtFront (drop at s))) (withFirst f (fourOf s at)) (at + 4)
 
 -- "and the 0 is itself"
-unfoldable pub readZeroThree : Fields → List ℕ → Got
-readZeroThree f s = gotIf (leb 4 (digitsAtFront s) && eqb (digitAt s 0) 0) (withSecond f (fourOf s)) (drop 4 s)
+unfoldable pub readZeroThree : Fields → List ℕ → ℕ → Got
+readZeroThree f s at = gotIf (leb 4 (digitsAtFront (drop at s)) && eqb (byteAt s at) (code "0")) (withSecond f (fourOf s at)) (at + 4)
 
 -- a field of each kind
-abbrev pub readField : Field → Fields → List ℕ → Got
-readField channel f s = readChannel f s
-readField signed f s = readSigned f s
-readField number f s = readNumber false f s
-readField digit f s = readDigit f s
-readField question f s = readQuestion f s
-readField four f s = readFour f s
-readField zeroThree f s = readZeroThree f s
+abbrev pub readField : Field → Fields → List ℕ → ℕ → Got
+readField Channel f s at = readChannel f s at
+readField Signed f s at = readSigned f s at
+readField Unsigned f s at = readNumber false f s at
+readField Digit f s at = readDigit f s at
+readField Question f s at = readQuestion f s at
+readField FourDigits f s at = readFour f s at
+readField ZeroThree f s at = readZeroThree f s at
+readField Enable f s at = readLetters (code "E") (code "N") f s at
+readField Disable f s at = readLetters (code "D") (code "S") f s at
+readField End f s at = Here f at
+readField Never f s at = Absent
 
 -- what comes next, where the field before it is there
-abbrev pub onward : Got → (Fields → List ℕ → Got) → Got
-onward (got f s) next = next f s
-onward absent next = absent
+abbrev pub onward : Got → (Fields → ℕ → Got) → Got
+onward (Here f at) next = next f at
+onward Absent next = Absent
 
 -- the fields of a shape, one after the other
-unfoldable pub readFields : List Field → Fields → List ℕ → Got
-readFields [] f s = got f s
-readFields (k ∷ ks) f s = onward (readField k f s) (λ g t. readFields ks g t)
+unfoldable pub readFields : List Field → Fields → List ℕ → ℕ → Got
+readFields [] f s at = Here f at
+readFields (k ∷ ks) f s at = onward (readField k f s at) (λ g to. readFields ks g s to)

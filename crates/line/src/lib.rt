@@ -23,6 +23,49 @@ pub struct Fields {
     pub second: Four,
 }
 
+// The kinds of field that may follow a word. `End` stands where a row has no field more, `Never` where no line has the form.
+pub enum Field {
+    // x
+    Channel,
+    // ±d
+    Signed,
+    // d
+    Unsigned,
+    // e
+    Digit,
+    // the ? of STSx?
+    Question,
+    // DYYY, ABCD
+    FourDigits,
+    // 0yyy
+    ZeroThree,
+    // EN
+    Enable,
+    // DS
+    Disable,
+    End,
+    Never,
+}
+
+// What follows a word: three fields at most.
+pub struct Shape {
+    pub first: Field,
+    pub second: Field,
+    pub third: Field,
+}
+
+// What reading a field gives: the fields so far and the place after it, or that it is not there.
+pub enum Got {
+    Here(Fields, usize),
+    Absent,
+}
+
+// A word by its letters, the last one lowest, and the place after it; no letters where no word stands.
+pub struct Word {
+    pub letters: u64,
+    pub end: usize,
+}
+
 // Starts. A direction is 1 for CW (P) and 2 for CCW (N).
 pub enum Start {
     // ABSx±d
