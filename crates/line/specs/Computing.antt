@@ -3,7 +3,8 @@
 use Rattle.digits.specs.Computing.{computing-digits}
 use Rattle.line.specs.Shapes.{readChannel, readNumber, readSigned, readDigit, readQuestion, readLetters, readFour, readZeroThree, readFields}
 use Rattle.line.specs.Forms.{fieldsAsRow, asRow, forms, firstForm, orderOf}
+use Rattle.line.specs.Finding.{packed, those, rowsWith, isWord, longest, wordAt, repeated, firstFormOf, secondFormOf, readShape, caseAt, orderAt}
 
 unfoldable pub computing-line : Unit {0}
-unfolding computing-digits readChannel readNumber readSigned readDigit readQuestion readLetters readFour readZeroThree readFields fieldsAsRow asRow forms firstForm orderOf
+unfolding computing-digits readChannel readNumber readSigned readDigit readQuestion readLetters readFour readZeroThree readFields fieldsAsRow asRow forms firstForm orderOf packed those rowsWith isWord longest wordAt repeated firstFormOf secondFormOf readShape caseAt orderAt
 computing-line = tt

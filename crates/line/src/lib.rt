@@ -1,6 +1,9 @@
 // A command line and the order that it is. An order carries what was written, in range or not: a value is judged later, in
 // its place among the refusals. The lines themselves are listed in specs/Forms.antt, row by row.
 
+pub mod forms;
+
+
 // A number as it was written: its sign, and the value of its 1 to 10 digits.
 pub struct Written {
     pub minus: bool,
@@ -147,6 +150,12 @@ pub enum Order {
     ClearErrors,
     // ERRCe
     ClearError(u64),
+}
+
+// A form: what follows its word, and its order with the fields left blank.
+pub struct Form {
+    pub shape: Shape,
+    pub order: Order,
 }
 
 // What a line is: an order, or nothing that has one of the forms.
