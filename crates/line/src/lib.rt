@@ -2,7 +2,7 @@
 // its place among the refusals. The lines themselves are listed in specs/Forms.antt, row by row.
 
 pub mod forms;
-
+pub mod orders;
 
 // A number as it was written: its sign, and the value of its 1 to 10 digits.
 pub struct Written {
