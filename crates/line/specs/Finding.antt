@@ -2,7 +2,7 @@
 -- and nothing else, is proved in proofs/FindingLaws.antt: a reader who believes `orderOf` need not believe this file.
 use Prim.Native.Nat.{ℕ, zero, suc, _+_}
 use mathlib.Core.List.{List, [], _∷_, reverse}
-use mathlib.Core.Bool.{Bool, false, _||_, cond}
+use mathlib.Core.Bool.{Bool, true, false, _||_, cond}
 use lib.ListN.{length, take, drop, getD}
 use lib.Dec.{leb, eqb}
 use Rattle.digits.specs.Text.{same}
@@ -37,6 +37,11 @@ those p (r ∷ rs) = cond (p r) (r ∷ those p rs) (those p rs)
 -- the rows whose word has these letters
 unfoldable pub rowsWith : ℕ → List Row → List Row
 rowsWith k rs = those (λ r. eqb (packed (r .word)) k) rs
+
+-- there is a row
+abbrev pub someRow : List Row → Bool
+someRow [] = false
+someRow (r ∷ rs) = true
 
 -- a text is the word of one of the rows
 unfoldable pub isWord : List Row → List ℕ → Bool
