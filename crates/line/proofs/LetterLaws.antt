@@ -3,19 +3,20 @@
 use mathlib.Core.Path.{_≡_, refl, sym, ap, _∙_}
 use mathlib.Core.List.{List, [], _∷_, _++_, reverse, reverse-cons, reverse-append, reverse-reverse}
 use mathlib.Core.Bool.{Bool, true, false, _&&_, _||_, cond, and-eq-true-iff, false≢true}
-use Prim.Native.Nat.{ℕ, zero, suc, _+_, _*_, _/_, _%_, _<_, _≤_, min}
-use native.Mathlib.Nat.{add-zero, add-suc}
+use Prim.Native.Nat.{ℕ, zero, suc, _+_, _*_, _/_, _%_, _-_, _<_, _≤_, min}
+use native.Mathlib.Nat.{add-zero, add-suc, not-suc-le-zero}
 use native.Mathlib.Omega.{arith}
 use lib.ListN.{length, take, drop, getD}
-use lib.Seq.{take-suc, take-all}
+use lib.Seq.{take-suc, take-all, length-take-le, getD-take}
 use lib.Dec.{eqb, ltb, leb}
-use borrow.Author.Tests.{eqb-true, eqb-false, eq-eqb, ne-eqb, lt-ltb, ltb-true}
-use Rattle.digits.specs.Bytes.{AllBytes}
+use borrow.Author.Tests.{eqb-true, eqb-false, eq-eqb, ne-eqb, lt-ltb, ltb-true, leb-true, leb-false}
+use Rattle.digits.specs.Bytes.{AllBytes, part}
 use Rattle.digits.specs.Words.{word}
 use Rattle.digits.specs.Text.{same, bytes}
 use Rattle.digits.proofs.PartLaws.{append-bytes, cons-bytes, none-bytes, part-bytes}
+use Rattle.line.specs.declared.Word.{Word}
 use Rattle.line.specs.Forms.{Row, forms}
-use Rattle.line.specs.Finding.{packed, those, rowsWith, someRow, isWord, longest}
+use Rattle.line.specs.Finding.{packed, those, rowsWith, someRow, isWord, longest, marked, letterCount}
 use Rattle.line.specs.Computing.{computing-line}
 
 -- Two texts that are the same are equal, and a text is the same as itself.
@@ -181,3 +182,50 @@ longest-past (suc n) s h = rw (take-all (suc (suc n)) s (omega arith), take-all 
 pub longest-whole : (k : ℕ) (s : List ℕ) → longest (length s + k) s ≡ longest (length s) s
 longest-whole zero s = rw (add-zero (length s))
 longest-whole (suc k) s = rw (add-suc (length s) k) (longest-past (length s + k) s (omega arith) ∙ longest-whole k s)
+
+-- What the number of letters looked at says of them.
+pub count-within : (t : List ℕ) (n : ℕ) → n < letterCount t → (n < 8) × (n < length t) × (0 < getD t 0 0)
+count-within t n h = go (eqb (getD t 0 0) 0) refl
+  where
+    go : (b : Bool) → eqb (getD t 0 0) 0 ≡ b → (n < 8) × (n < length t) × (0 < getD t 0 0)
+    go true e = absurd (not-suc-le-zero (rw e at h))
+    go false e =
+        let m : n < min 8 (length t) = (rw e at h) in
+        let z : getD t 0 0 ≡ 0 → ⊥ = eqb-false (getD t 0 0) 0 e in
+        (omega arith, omega arith, omega arith)
+
+-- They are enough to find the longest word.
+pub count-enough : (t : List ℕ) → longest (letterCount t) t ≡ longest 8 t
+count-enough t = go (eqb (getD t 0 0) 0) refl (leb (length t) 8) refl
+  where
+    go : (b : Bool) → eqb (getD t 0 0) 0 ≡ b → (c : Bool) → leb (length t) 8 ≡ c → longest (letterCount t) t ≡ longest 8 t
+    go true e c f = rw (e, longest-none 0 t (eqb-true (getD t 0 0) 0 e), longest-none 8 t (eqb-true (getD t 0 0) 0 e))
+    go false e true f =
+        let h : length t ≤ 8 = leb-true (length t) 8 f in
+        let m : min 8 (length t) ≡ length t = omega arith in
+        let w : length t + (8 - length t) ≡ 8 = omega arith in
+        rw (e, m) (sym (longest-whole (8 - length t) t) ∙ (rw w))
+    go false e false f =
+        let h : 8 < length t = leb-false (length t) 8 f in
+        let m : min 8 (length t) ≡ 8 = omega arith in
+        rw (e, m)
+
+-- Where no word stands, no letters are marked.
+pub marked-none : (at : ℕ) → _≡_ {A = Word} (record { letters = 0; end = at }) (marked at [])
+unfolding packed word
+marked-none at = rw (add-zero at)
+
+-- One letter more: the letters so far are the longest word, or it stays what it was.
+pub longer-word : (t : List ℕ) (at n k : ℕ) (w : Word) → n < letterCount t → AllBytes t → k ≡ packed (take (suc n) t) → w ≡ marked at (longest n t)
+    → cond (someRow (rowsWith k forms)) (record { letters = k; end = at + suc n }) w ≡ marked at (longest (suc n) t)
+unfolding longest part
+longer-word t at n k w h f e p =
+    let i = count-within t n h in
+    let l : length (take (suc n) t) ≡ suc n = length-take-le (suc n) t (omega arith) in
+    let q : Lettered (take (suc n) t) = record { bytes = part-bytes t 0 (suc n) f; first = rw (getD-take (suc n) t 0 0 (omega arith)) (i .2) } in
+    rw (e, word-number (take (suc n) t) q, p) (go (isWord forms (take (suc n) t)) l)
+  where
+    go : (b : Bool) → length (take (suc n) t) ≡ suc n
+        → cond b (record { letters = packed (take (suc n) t); end = at + suc n }) (marked at (longest n t)) ≡ marked at (cond b (take (suc n) t) (longest n t))
+    go true l = rw l
+    go false l = refl

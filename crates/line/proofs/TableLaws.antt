@@ -4,11 +4,13 @@ use mathlib.Core.List.{List, [], _∷_, _++_}
 use mathlib.Core.Bool.{Bool, true, false, _&&_, _||_, cond, and-eq-true-iff, false≢true}
 use Prim.Native.Nat.{ℕ}
 use lib.Dec.{eqb}
+use mathlib.Core.Logic.{inl, inr}
 use types.Run.{OneOf}
 use borrow.Author.Tests.{eqb-true, eqb-false, eq-eqb, ne-eqb}
 use Rattle.line.specs.declared.Form.{Form}
-use Rattle.line.specs.Forms.{Row}
-use Rattle.line.specs.Finding.{packed, those, rowsWith, formBy}
+use Rattle.line.specs.Forms.{Row, forms}
+use Rattle.line.specs.Finding.{packed, those, rowsWith, someRow, formOf, noForm, isThere, formBy, firstFormOf}
+use Rattle.line.specs.Computing.{computing-line}
 
 -- a number is one of some
 abbrev pub among : ℕ → List ℕ → Bool
@@ -28,6 +30,17 @@ keys rs = keysAfter [] rs
 abbrev pub Rest : List ℕ → ℕ → Type 0
 Rest [] n = Unit {0}
 Rest (k ∷ ks) n = Rest ks n × (OneOf (k ∷ []) n → ⊥)
+
+-- A number that is one of an arm's is among them.
+pub one-among : (ks : List ℕ) (n : ℕ) → OneOf ks n → among n ks ≡ true
+one-among [] n h = absurd h
+one-among (k ∷ []) n h = rw (eq-eqb n k h)
+one-among (k ∷ j ∷ ks) n (inl h) = rw (eq-eqb n k h)
+one-among (k ∷ j ∷ ks) n (inr h) = rw (one-among (j ∷ ks) n h) (or-true (eqb n k))
+  where
+    or-true : (b : Bool) → (b || true) ≡ true
+    or-true true = refl
+    or-true false = refl
 
 pub rest-none : (ks : List ℕ) (n : ℕ) → Rest ks n → among n ks ≡ false
 rest-none [] n r = refl
@@ -57,3 +70,26 @@ form-append n (r ∷ a) b g = go (eqb (packed (r .word)) n) refl (form-append n 
         → formBy (rowsWith n ((r ∷ a) ++ b)) g ≡ formBy (rowsWith n (r ∷ a)) (formBy (rowsWith n b) g)
     go true e h = rw e
     go false e h = rw e h
+
+-- every row begins with a field that some line may have, or has none
+allThere : List Row → Bool
+allThere [] = true
+allThere (r ∷ rs) = isThere (formOf r .shape .first) && allThere rs
+
+there-with : (rs : List Row) (n : ℕ) → allThere rs ≡ true → isThere (formBy (rowsWith n rs) noForm .shape .first) ≡ someRow (rowsWith n rs)
+unfolding rowsWith those allThere
+there-with [] n h = refl
+there-with (r ∷ rs) n h =
+    let both = and-eq-true-iff (isThere (formOf r .shape .first)) (allThere rs) .0 h in
+    go (eqb (packed (r .word)) n) refl (both .0) (there-with rs n (both .1))
+  where
+    go : (t : Bool) → eqb (packed (r .word)) n ≡ t → isThere (formOf r .shape .first) ≡ true
+        → isThere (formBy (rowsWith n rs) noForm .shape .first) ≡ someRow (rowsWith n rs)
+        → isThere (formBy (rowsWith n (r ∷ rs)) noForm .shape .first) ≡ someRow (rowsWith n (r ∷ rs))
+    go true e h i = rw (e, h)
+    go false e h i = rw e i
+
+-- Letters are a word where their form is one that some line may have.
+pub form-there : (n : ℕ) → isThere (firstFormOf n .shape .first) ≡ someRow (rowsWith n forms)
+unfolding computing-line allThere
+form-there n = there-with forms n refl

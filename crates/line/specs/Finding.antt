@@ -1,6 +1,6 @@
 -- How the row of a line is found: by the longest word that the line begins with. That this finds each form of document 01,
 -- and nothing else, is proved in proofs/FindingLaws.antt: a reader who believes `orderOf` need not believe this file.
-use Prim.Native.Nat.{ℕ, zero, suc, _+_}
+use Prim.Native.Nat.{ℕ, zero, suc, _+_, min}
 use mathlib.Core.List.{List, [], _∷_, reverse}
 use mathlib.Core.Bool.{Bool, true, false, _||_, cond}
 use lib.ListN.{length, take, drop, getD}
@@ -9,7 +9,7 @@ use Rattle.digits.specs.Text.{same}
 use Rattle.digits.specs.Words.{word}
 use Rattle.line.specs.declared.Fields.{Fields}
 use Rattle.line.specs.declared.Field.{Field}
-use Rattle.line.specs.declared.Field.the-variants.{End, Never}
+use Rattle.line.specs.declared.Field.the-variants.{Channel, Signed, Unsigned, Digit, Question, FourDigits, ZeroThree, Enable, Disable, End, Never}
 use Rattle.line.specs.declared.Shape.{Shape}
 use Rattle.line.specs.declared.Form.{Form}
 use Rattle.line.specs.declared.Start.{Start}
@@ -53,6 +53,10 @@ unfoldable pub longest : ℕ → List ℕ → List ℕ
 longest zero s = []
 longest (suc n) s = cond (isWord forms (take (suc n) s)) (take (suc n) s) (longest n s)
 
+-- how many letters of a line are looked at: eight at most, and none of a text that begins with a zero byte, as no word does
+abbrev pub letterCount : List ℕ → ℕ
+letterCount s = cond (eqb (getD s 0 0) 0) 0 (min 8 (length s))
+
 -- a word and the place after it
 abbrev pub marked : ℕ → List ℕ → Word
 marked at w = record { letters = packed w; end = at + length w }
@@ -72,6 +76,20 @@ formOf r = record { shape = shapeOf (r .fields); order = r .order noFields }
 -- the form that no line has
 abbrev pub noForm : Form
 noForm = record { shape = shapeOf (Never ∷ []); order = ClearErrors }
+
+-- some line may have the field
+abbrev pub isThere : Field → Bool
+isThere Channel = true
+isThere Signed = true
+isThere Unsigned = true
+isThere Digit = true
+isThere Question = true
+isThere FourDigits = true
+isThere ZeroThree = true
+isThere Enable = true
+isThere Disable = true
+isThere End = true
+isThere Never = false
 
 -- the form of the first of some rows, or else another
 abbrev pub formBy : List Row → Form → Form

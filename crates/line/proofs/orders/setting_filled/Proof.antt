@@ -1,62 +1,46 @@
 use borrow.Author.Needs.{needs}
 use Rattle.line.proofs.orders.setting_filled.Statement.{statement}
 use Rattle.line.proofs.orders.setting_filled.Tie as tie
-use Rattle.line.proofs.orders.setting_filled.Reads as reads
-use Rattle.line.proofs.orders.setting_filled.Lts as lts
 
--- src/orders.rt:29:31
 enum-told : tie.Need-enum-told
 enum-told c = search needs
 
--- src/orders.rt:30:35
 enum-told-2 : tie.Need-enum-told-2
 enum-told-2 c = search needs
 
--- src/orders.rt:31:36
 enum-told-3 : tie.Need-enum-told-3
 enum-told-3 c = search needs
 
--- src/orders.rt:32:25
 enum-known-setting : tie.Need-enum-known-setting
 enum-known-setting c = search needs
 
--- src/orders.rt:33:27
 enum-known-setting-2 : tie.Need-enum-known-setting-2
 enum-known-setting-2 c = search needs
 
--- src/orders.rt:34:39
 enum-told-4 : tie.Need-enum-told-4
 enum-told-4 c = search needs
 
--- src/orders.rt:35:33
 enum-told-5 : tie.Need-enum-told-5
 enum-told-5 c = search needs
 
--- src/orders.rt:22:1
 returns : tie.Need-returns
 returns c = rw (c .enum-told .given .1)
 
--- src/orders.rt:22:1
 returns-2 : tie.Need-returns-2
 returns-2 c = rw (c .enum-told2 .given .1)
 
--- src/orders.rt:22:1
 returns-3 : tie.Need-returns-3
 returns-3 c = rw (c .enum-told3 .given .1)
 
--- src/orders.rt:22:1
 returns-4 : tie.Need-returns-4
 returns-4 c = rw (c .before .setting .given .1)
 
--- src/orders.rt:22:1
 returns-5 : tie.Need-returns-5
 returns-5 c = rw (c .before .setting2 .given .1)
 
--- src/orders.rt:22:1
 returns-6 : tie.Need-returns-6
 returns-6 c = rw (c .enum-told4 .given .1)
 
--- src/orders.rt:22:1
 returns-7 : tie.Need-returns-7
 returns-7 c = rw (c .enum-told5 .given .1)
 
