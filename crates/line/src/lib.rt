@@ -1,6 +1,8 @@
 // A command line and the order that it is. An order carries what was written, in range or not: a value is judged later, in
 // its place among the refusals. The lines themselves are listed in specs/Forms.antt, row by row.
 
+pub mod reading;
+
 // A number as it was written: its sign, and the value of its 1 to 10 digits.
 pub struct Written {
     pub minus: bool,
