@@ -1,3 +1,4 @@
+pub mod ReadLaws
 pub mod TableLaws
 pub mod LetterLaws
 pub mod Laws

@@ -18,11 +18,10 @@ use Rattle.line.specs.declared.Setting.{Setting}
 use Rattle.line.specs.declared.Setting.the-variants.{Preset, SetCwLimit, SetCcwLimit, Select, SetSpeed, SetSwitches, SetMotor}
 use Rattle.line.specs.declared.Order.{Order}
 use Rattle.line.specs.declared.Order.the-variants.{Go, Stop, StopAll, ChangeSpeed, Set, Ask, Mode, AllReply, AskHead, ClearErrors, ClearError}
-use Rattle.line.specs.declared.Got.{Got}
 use Rattle.line.specs.declared.Word.{Word}
 use Rattle.line.specs.declared.Parsed.{Parsed}
 use Rattle.line.specs.declared.Parsed.the-variants.{Nothing}
-use Rattle.line.specs.Shapes.{onward, readField, noFields}
+use Rattle.line.specs.Shapes.{noFields, readShape}
 use Rattle.line.specs.Forms.{Row, forms, firstOf, complete}
 
 -- the letters of a word as one number, the last one lowest
@@ -108,11 +107,6 @@ firstFormOf k = formBy (rowsWith k forms) noForm
 -- the second form of a word, such as `SPDHxd` beside `SPDHx`
 unfoldable pub secondFormOf : ℕ → Form
 secondFormOf k = formBy (rowsWith k (repeated [] forms)) noForm
-
--- the fields of a shape, read in turn
-unfoldable pub readShape : Shape → List ℕ → ℕ → Got
-readShape k s at =
-    onward (onward (readField (k .first) noFields s at) (λ f to. readField (k .second) f s to)) (λ f to. readField (k .third) f s to)
 
 -- a start with its fields
 abbrev pub startFilled : Start → Fields → Start

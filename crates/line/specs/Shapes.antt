@@ -13,6 +13,7 @@ use Rattle.line.specs.declared.Four.{Four}
 use Rattle.line.specs.declared.Fields.{Fields}
 use Rattle.line.specs.declared.Field.{Field}
 use Rattle.line.specs.declared.Field.the-variants.{Channel, Signed, Unsigned, Digit, Question, FourDigits, ZeroThree, Enable, Disable, End, Never}
+use Rattle.line.specs.declared.Shape.{Shape}
 use Rattle.line.specs.declared.Got.{Got}
 use Rattle.line.specs.declared.Got.the-variants.{Here, Absent}
 
@@ -162,3 +163,10 @@ onward Absent next = Absent
 unfoldable pub readFields : List Field → Fields → List ℕ → ℕ → Got
 readFields [] f s at = Here f at
 readFields (k ∷ ks) f s at = onward (readField k f s at) (λ g to. readFields ks g s to)
+
+-- the three fields of a shape, one after the other, from a place on
+unfoldable pub readShape : Shape → List ℕ → ℕ → Got
+readShape k s at =
+    onward
+    (onward (readField (k .first) noFields s at) (λ f to. readField (k .second) f s to))
+    (λ f to. readField (k .third) f s to)

@@ -1,6 +1,7 @@
 // A command line and the order that it is. An order carries what was written, in range or not: a value is judged later, in
 // its place among the refusals. The lines themselves are listed in specs/Forms.antt, row by row.
 
+pub mod field_reading;
 pub mod finding;
 pub mod forms;
 pub mod orders;
