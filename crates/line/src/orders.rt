@@ -1,11 +1,18 @@
 // An order is made of a form: the fields of the line are put where the form has them blank.
 
 use crate::Fields;
+use crate::Form;
+use crate::Got;
 use crate::Order;
+use crate::Parsed;
 use crate::Setting;
 use crate::Start;
+use crate::Word;
+use crate::field_reading::fields_at;
+use crate::forms::first_form;
+use crate::forms::second_form;
 ghost use mathlib.Core.Path.{_≡_};
-ghost use Rattle.line.specs.Finding.{startFilled, settingFilled, filled};
+ghost use Rattle.line.specs.Finding.{startFilled, settingFilled, filled, caseAt, orderAt};
 
 fn start_filled(start: Start, f: Fields) -> Start
     ensures { λ r. ⌜ r ≡ startFilled start f ⌝ }
@@ -53,5 +60,38 @@ pub fn filled_order(order: Order, f: Fields) -> Order
         Order::AskHead(question) => Order::AskHead(question),
         Order::ClearErrors => Order::ClearErrors,
         Order::ClearError(_) => Order::ClearError(written.digits),
+    }
+}
+
+// The order that a form makes of the fields from a place on. Nothing may follow them.
+fn case_at(s: &[u8], at: usize, form: Form) -> Parsed
+    ensures { λ r. ⌜ r ≡ caseAt form (now (s .entry)) at ⌝ }
+{
+    let shape = form.shape;
+    let order = form.order;
+    match fields_at(s, at, shape) {
+        Got::Here(f, end) => {
+            if end == s.len() {
+                Parsed::Is(filled_order(order, f))
+            } else {
+                Parsed::Nothing
+            }
+        }
+        Got::Absent => Parsed::Nothing,
+    }
+}
+
+// The order that a word makes with the fields from a place on, by its first form or else by its second. A line of more than
+// 80 bytes has no form.
+pub fn order_at(s: &[u8], at: usize, word: Word) -> Parsed
+    ensures { λ r. ⌜ r ≡ orderAt (now (s .entry)) at word ⌝ }
+{
+    if s.len() <= 80 {
+        match case_at(s, at, first_form(word.letters)) {
+            Parsed::Is(order) => Parsed::Is(order),
+            Parsed::Nothing => case_at(s, at, second_form(word.letters)),
+        }
+    } else {
+        Parsed::Nothing
     }
 }
