@@ -31,7 +31,10 @@ pub fn word<'a>(r: Reader<'a>) -> Word
 pub fn past<'a>(r: Reader<'a>, w: Word) -> Reader<'a>
     ensures { λ q. ⌜ (q .line ≡ r .entry .line) × (q .place ≡ w .end) ⌝ }
 {
-    Reader { line: r.line, place: w.end }
+    Reader {
+        line: r.line,
+        place: w.end,
+    }
 }
 
 // The order that a word makes with the fields from the place reached to the end of the line.

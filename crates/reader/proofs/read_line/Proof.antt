@@ -15,21 +15,19 @@ use prog.Memory.{Memory}
 use prog.Routine.{Routine}
 use prog.Wp.{Heap, Calls, Loops, WpFn, Tables}
 use ghost.Atoms.{Atoms, sem}
-use contract.Lifetimes.{Lfts}
 use contract.Monad.{Fun, fact}
 use contract.Running.{givenOf, tables, tablesOf}
 use types.Kit.{Given, ‵, raw, _⊛_, ⋆, some, later, _$_, _∵_, !, qed, by, move, use1, use2, split, join, pick, fsplit, fjoin, suffices, frame, await, done}
 use types.Run.{look, init, forget, stop, from, load, of-opd, and-then, no-more, assigns, land, returns, enter, alloc1, alloc0, params1, pass1, pass0, free1, free0}
 use sound.WpLaws.{FmC, fmOf, WpFn-mono}
-use denote.RattleType.{RattleType, owns}
+use denote.RattleType.{owns}
 use denote.Laws.{Is, shows}
 use denote.Builtin.{u8}
 use denote.Ref.{RefT, NamedLft, now}
-use denote.Signature.{plain, namedLft}
+use denote.Signature.{plain}
 use denote.Slice.{sliceVal, ShrSlice, slice-vals, shr-slice-tells, shr-slice-lawful, shr-slice-copy}
 use denote.Steps.{owned, peeks, facts, heard, nothing}
 use denote.Enum.Laws as EL
-use denote.Struct.Laws as LL
 use denote.Triple.Statement.{Contract, Triple}
 use denote.Triple.Call.{calls-at}
 use denote.Triple.Entry.{onEntry}
@@ -44,10 +42,8 @@ use Rattle.line.specs.declared.Word.{Word}
 use Rattle.line.proofs.Parsed as P
 use Rattle.line.proofs.Parsed.Laws as P′
 use Rattle.line.proofs.Word as S
-use Rattle.line.proofs.Word.Laws as S′
 use Rattle.reader.specs.declared.Reader.{Reader}
-use Rattle.reader.proofs.Reader as T
-use Rattle.reader.proofs.Reader.Laws as T′
+use Rattle.reader.proofs.Held.{row, OwnReader, reader-copy, reader-typed, word-typed, word-makes}
 use Rattle.reader.proofs.open as opening
 use Rattle.reader.proofs.open.Symbol as opening-def
 use Rattle.reader.proofs.open.Symbol.{name as #reader·open}
@@ -76,13 +72,9 @@ whole-line s = refl
 
 -- what the four calls say of their results, together
 line-said : (s : RefT (List ℕ)) (r p : Reader) (w : Word) (o : Parsed) → (r .line ≡ s) × (r .place ≡ 0) → w ≡ wordAt (now (r .line)) (r .place) → (p .line ≡ r .line) × (p .place ≡ w .end) → o ≡ orderAt (now (p .line)) (p .place) w → o ≡ lineOrder (now s)
-line-said s r p w o opened found moved read =
-    read ∙ (ap (λ (x : RefT (List ℕ)). orderAt (now x) (p .place) w) (moved .0 ∙ opened .0) ∙ (ap (λ (n : ℕ). orderAt (now s) n w) (moved .1)
+line-said s r p w o opened found moved made =
+    made ∙ (ap (λ (x : RefT (List ℕ)). orderAt (now x) (p .place) w) (moved .0 ∙ opened .0) ∙ (ap (λ (n : ℕ). orderAt (now s) n w) (moved .1)
     ∙ (ap (λ (x : Word). orderAt (now s) (x .end) x) (found ∙ (ap (λ (x : RefT (List ℕ)). wordAt (now x) (r .place)) (opened .0) ∙ ap (wordAt (now s)) (opened .1))) ∙ whole-line (now s))))
-
--- the reader's type, over the signature's lifetimes
-abbrev B : Lfts 1 → RattleType
-B κs = T.the-row (namedLft 1 0 tt κs)
 
 abbrev stayed : Stays (read.ended .signature .params) (read.ended .kept)
 stayed = (stay-none-slice (0 ∷ []) tt (plain (λ _. u8)) yes, tt)
@@ -116,9 +108,6 @@ module _ {M : Type 1} (𝓤 : URA M) (H : Heap 𝓤) (A : Atoms 𝓤) (W : Given
   abbrev Own : Fml
   Own = ShrSlice (named 0) κ u8 .own s (v ∷ [])
 
-  abbrev OwnR : Reader → Val → Fml
-  OwnR r u = B (κ, tt) .own r (u ∷ [])
-
   -- the call of `open`: what it is passed, what it asks, and what is known of its result
   abbrev to-open : Opens 𝓤 H A mem run .Ghost
   to-open = (((κ, tt), (q, tt), tt, (s, tt), (v ∷ [], tt)), tt)
@@ -136,8 +125,8 @@ module _ {M : Type 1} (𝓤 : URA M) (H : Heap 𝓤) (A : Atoms 𝓤) (W : Given
   abbrev to-word : Reader → Val → Words 𝓤 H A mem run .Ghost
   to-word r u = (((κ, tt), (q, tt), tt, (r, tt), (u ∷ [], tt)), tt)
 
-  goes-word : (r : Reader) (u : Val) → ent 𝓤 (⋆ 𝓤 H A (‵ (OwnR r u) ∷ (‵ (flft κ q) ⊛ ‵ ftrue) ∷ [])) (Words 𝓤 H A mem run .pre (to-word r u))
-  goes-word r u = qed W (‵ (OwnR r u) ∷ (‵ (flft κ q) ⊛ ‵ ftrue) ∷ []) ∵ nothing ! $ move ! (1 ∷ 0 ∷ []) $ fjoin ! $ move ! (1 ∷ 0 ∷ []) $ join ! $ frame ! $ done !
+  goes-word : (r : Reader) (u : Val) → ent 𝓤 (⋆ 𝓤 H A (‵ (OwnReader κ r u) ∷ (‵ (flft κ q) ⊛ ‵ ftrue) ∷ [])) (Words 𝓤 H A mem run .pre (to-word r u))
+  goes-word r u = qed W (‵ (OwnReader κ r u) ∷ (‵ (flft κ q) ⊛ ‵ ftrue) ∷ []) ∵ nothing ! $ move ! (1 ∷ 0 ∷ []) $ fjoin ! $ move ! (1 ∷ 0 ∷ []) $ join ! $ frame ! $ done !
 
   word-said : (r : Reader) (w : Word) → ent 𝓤 (ensured 𝓤 H A word.ended (word.clauses 𝓤 H A mem run) (κ, tt) (r, tt) tt w) (fact 𝓤 (w ≡ wordAt (now (r .line)) (r .place)))
   word-said r w = exE 𝓤 _ (λ ws. snd∗ 𝓤 (sem 𝓤 H A (lasts word.ended (κ, tt) (r, tt) ws)) (fact 𝓤 (w ≡ wordAt (now (r .line)) (r .place))))
@@ -146,10 +135,10 @@ module _ {M : Type 1} (𝓤 : URA M) (H : Heap 𝓤) (A : Atoms 𝓤) (W : Given
   abbrev to-past : Reader → Val → Word → Val → Pasts 𝓤 H A mem run .Ghost
   to-past r u w m = (((κ, tt), (q, tt), tt, (r, (w, tt)), (u ∷ [], (m ∷ [], tt))), tt)
 
-  goes-past : (r : Reader) (u : Val) (w : Word) (m : Val) → Is S.the-row w (m ∷ []) → ent 𝓤 (⋆ 𝓤 H A (‵ (OwnR r u) ∷ (‵ (flft κ q) ⊛ ‵ ftrue) ∷ [])) (Pasts 𝓤 H A mem run .pre (to-past r u w m))
+  goes-past : (r : Reader) (u : Val) (w : Word) (m : Val) → Is S.the-row w (m ∷ []) → ent 𝓤 (⋆ 𝓤 H A (‵ (OwnReader κ r u) ∷ (‵ (flft κ q) ⊛ ‵ ftrue) ∷ [])) (Pasts 𝓤 H A mem run .pre (to-past r u w m))
   goes-past r u w m is =
-      qed W (‵ (OwnR r u) ∷ (‵ (flft κ q) ⊛ ‵ ftrue) ∷ []) ∵
-      nothing ! $ owned ! S.the-row (Is S.the-row) (LL.makes S.the-type S′.the-plain 𝓤 H A) w _ is $ fjoin ! $ move ! (1 ∷ 0 ∷ []) $ fjoin ! $ move ! (1 ∷ 0 ∷ []) $ join ! $ frame ! $ done !
+      qed W (‵ (OwnReader κ r u) ∷ (‵ (flft κ q) ⊛ ‵ ftrue) ∷ []) ∵
+      nothing ! $ owned ! S.the-row (Is S.the-row) (word-makes 𝓤 H A W) w _ is $ fjoin ! $ move ! (1 ∷ 0 ∷ []) $ fjoin ! $ move ! (1 ∷ 0 ∷ []) $ join ! $ frame ! $ done !
 
   past-said : (r : Reader) (w : Word) (p : Reader) → ent 𝓤 (ensured 𝓤 H A past.ended (past.clauses 𝓤 H A mem run) (κ, tt) (r, (w, tt)) tt p) (fact 𝓤 ((p .line ≡ r .line) × (p .place ≡ w .end)))
   past-said r w p = exE 𝓤 _ (λ ws. snd∗ 𝓤 (sem 𝓤 H A (lasts past.ended (κ, tt) (r, (w, tt)) ws)) (fact 𝓤 ((p .line ≡ r .line) × (p .place ≡ w .end))))
@@ -158,10 +147,8 @@ module _ {M : Type 1} (𝓤 : URA M) (H : Heap 𝓤) (A : Atoms 𝓤) (W : Given
   abbrev to-order : Reader → Val → Word → Val → Orders 𝓤 H A mem run .Ghost
   to-order r u w m = (((κ, tt), (q, tt), tt, (r, (w, tt)), (u ∷ [], (m ∷ [], tt))), tt)
 
-  goes-order : (r : Reader) (u : Val) (w : Word) (m : Val) → Is S.the-row w (m ∷ []) → ent 𝓤 (⋆ 𝓤 H A (‵ (OwnR r u) ∷ (‵ (flft κ q) ⊛ ‵ ftrue) ∷ [])) (Orders 𝓤 H A mem run .pre (to-order r u w m))
-  goes-order r u w m is =
-      qed W (‵ (OwnR r u) ∷ (‵ (flft κ q) ⊛ ‵ ftrue) ∷ []) ∵
-      nothing ! $ owned ! S.the-row (Is S.the-row) (LL.makes S.the-type S′.the-plain 𝓤 H A) w _ is $ fjoin ! $ move ! (1 ∷ 0 ∷ []) $ fjoin ! $ move ! (1 ∷ 0 ∷ []) $ join ! $ frame ! $ done !
+  goes-order : (r : Reader) (u : Val) (w : Word) (m : Val) → Is S.the-row w (m ∷ []) → ent 𝓤 (⋆ 𝓤 H A (‵ (OwnReader κ r u) ∷ (‵ (flft κ q) ⊛ ‵ ftrue) ∷ [])) (Orders 𝓤 H A mem run .pre (to-order r u w m))
+  goes-order = goes-past
 
   order-said : (r : Reader) (w : Word) (o : Parsed) → ent 𝓤 (ensured 𝓤 H A order.ended (order.clauses 𝓤 H A mem run) (κ, tt) (r, (w, tt)) tt o) (fact 𝓤 (o ≡ orderAt (now (r .line)) (r .place) w))
   order-said r w o = exE 𝓤 _ (λ ws. snd∗ 𝓤 (sem 𝓤 H A (lasts order.ended (κ, tt) (r, (w, tt)) ws)) (fact 𝓤 (o ≡ orderAt (now (r .line)) (r .place) w)))
@@ -179,13 +166,13 @@ module _ {M : Type 1} (𝓤 : URA M) (H : Heap 𝓤) (A : Atoms 𝓤) (W : Given
         alloc1 ! (λ l₀. alloc1 ! (λ l₁. alloc1 ! (λ l₂. alloc1 ! (λ l₃. alloc1 ! (λ l₄. alloc1 ! (λ l₅. alloc1 ! (λ l₆. alloc0 ! $ params1 ! $ pass1 ! (init ! 10 refl (shr-slice-lawful 𝓤 H A W (named 0) κ u8 .typed s (v ∷ []) is-s .0)) $ pass0 ! $
         move ! (14 ∷ []) $ use1 W (raw (Opens 𝓤 H A mem run .pre to-open) ⊛ ‵ Own) goes-open $ split ! $
         calls-at ! fm (Opens 𝓤 H A mem run) known-open to-open (and-then ! (load ! (from ! (stop !)) (look ! 12 refl)) (no-more !)) (λ u.
-        use1 W (later (some (λ (r : Reader). ((‵ (flft κ q) ⊛ ‵ ftrue) ⊛ ‵ (OwnR r u)) ⊛ raw (ensured 𝓤 H A opening.ended (opening.clauses 𝓤 H A mem run) (κ, tt) (s, tt) tt r)))) (id⊢ 𝓤 _) $ await ! tt $ pick ! (λ r.
+        use1 W (later (some (λ (r : Reader). ((‵ (flft κ q) ⊛ ‵ ftrue) ⊛ ‵ (OwnReader κ r u)) ⊛ raw (ensured 𝓤 H A opening.ended (opening.clauses 𝓤 H A mem run) (κ, tt) (s, tt) tt r)))) (id⊢ 𝓤 _) $ await ! tt $ pick ! (λ r.
         split ! $ move ! (1 ∷ []) $ use1 W (raw (fact 𝓤 ((r .line ≡ s) × (r .place ≡ 0)))) (open-said r) $ heard ! ((r .line ≡ s) × (r .place ≡ 0)) (λ opened. split ! $ move ! (1 ∷ []) $
         -- [what r owns; the token; what s owns; room for _6; …; room for _5; …; room for _4; …; room for _3; …; room for _2; …; _1; …; room for _0; …]
-        peeks ! (B (κ, tt)) (Is (B (κ, tt))) (shows 𝓤 H A (B (κ, tt))) r (u ∷ []) (λ is.
-        land ! (from ! (stop !)) (init ! 11 refl (LL.lawful (T.the-type αᵉ) (T′.the-laws αᵉ) 𝓤 H A W .typed r _ is .0)) $
-        assigns ! (of-opd ! (load ! (from ! (stop !)) (look ! 11 refl))) (from ! (stop !)) (init ! 7 refl (LL.lawful (T.the-type αᵉ) (T′.the-laws αᵉ) 𝓤 H A W .typed r _ is .0)) $
-        use1 W (‵ (OwnR r u) ⊛ ‵ (OwnR r u)) (LL.copy (T.the-type (namedLft 1 0 tt (κ, tt))) (T′.the-copy (namedLft 1 0 tt (κ, tt))) 𝓤 H A W .twice r (u ∷ [])) $ split ! $
+        peeks ! (row (κ, tt)) (Is (row (κ, tt))) (shows 𝓤 H A (row (κ, tt))) r (u ∷ []) (λ is.
+        land ! (from ! (stop !)) (init ! 11 refl (reader-typed 𝓤 H A W αᵉ r _ is)) $
+        assigns ! (of-opd ! (load ! (from ! (stop !)) (look ! 11 refl))) (from ! (stop !)) (init ! 7 refl (reader-typed 𝓤 H A W αᵉ r _ is)) $
+        use1 W (‵ (OwnReader κ r u) ⊛ ‵ (OwnReader κ r u)) (reader-copy 𝓤 H A W (κ, tt) .twice r (u ∷ [])) $ split ! $
         move ! (0 ∷ 2 ∷ []) $ use2 W (raw (Words 𝓤 H A mem run .pre (to-word r u))) (goes-word r u) $
         -- [what `word` asks; what r owns; what s owns; room for _6; …]
         calls-at ! fm (Words 𝓤 H A mem run) known-word (to-word r u) (and-then ! (load ! (from ! (stop !)) (look ! 7 refl)) (no-more !)) (λ m.
@@ -193,16 +180,16 @@ module _ {M : Type 1} (𝓤 : URA M) (H : Heap 𝓤) (A : Atoms 𝓤) (W : Given
         split ! $ move ! (1 ∷ []) $ use1 W (raw (fact 𝓤 (w ≡ wordAt (now (r .line)) (r .place)))) (word-said r w) $ heard ! (w ≡ wordAt (now (r .line)) (r .place)) (λ found. split ! $ move ! (1 ∷ []) $
         -- [what w owns; the token; what r owns; what s owns; room for _6; …]: what w owns is let go
         facts ! S.the-row (Is S.the-row) (shows 𝓤 H A S.the-row) w (m ∷ []) (λ is-w.
-        land ! (from ! (stop !)) (init ! 9 refl (LL.lawful S.the-type S′.the-laws 𝓤 H A W .typed w _ is-w .0)) $
-        assigns ! (of-opd ! (load ! (from ! (stop !)) (look ! 11 refl))) (from ! (stop !)) (init ! 3 refl (LL.lawful (T.the-type αᵉ) (T′.the-laws αᵉ) 𝓤 H A W .typed r _ is .0)) $
+        land ! (from ! (stop !)) (init ! 9 refl (word-typed 𝓤 H A W w _ is-w)) $
+        assigns ! (of-opd ! (load ! (from ! (stop !)) (look ! 11 refl))) (from ! (stop !)) (init ! 3 refl (reader-typed 𝓤 H A W αᵉ r _ is)) $
         move ! (1 ∷ 0 ∷ []) $ use2 W (raw (Pasts 𝓤 H A mem run .pre (to-past r u w m))) (goes-past r u w m is-w) $
         -- [what `past` asks; what s owns; _6; …]
         calls-at ! fm (Pasts 𝓤 H A mem run) known-past (to-past r u w m) (and-then ! (load ! (from ! (stop !)) (look ! 2 refl)) (and-then ! (load ! (from ! (stop !)) (look ! 8 refl)) (no-more !))) (λ u′.
-        use1 W (later (some (λ (p : Reader). ((‵ (flft κ q) ⊛ ‵ ftrue) ⊛ ‵ (OwnR p u′)) ⊛ raw (ensured 𝓤 H A past.ended (past.clauses 𝓤 H A mem run) (κ, tt) (r, (w, tt)) tt p)))) (id⊢ 𝓤 _) $ await ! tt $ pick ! (λ p.
+        use1 W (later (some (λ (p : Reader). ((‵ (flft κ q) ⊛ ‵ ftrue) ⊛ ‵ (OwnReader κ p u′)) ⊛ raw (ensured 𝓤 H A past.ended (past.clauses 𝓤 H A mem run) (κ, tt) (r, (w, tt)) tt p)))) (id⊢ 𝓤 _) $ await ! tt $ pick ! (λ p.
         split ! $ move ! (1 ∷ []) $ use1 W (raw (fact 𝓤 ((p .line ≡ r .line) × (p .place ≡ w .end)))) (past-said r w p) $ heard ! ((p .line ≡ r .line) × (p .place ≡ w .end)) (λ moved. split ! $ move ! (1 ∷ []) $
         -- [what p owns; the token; what s owns; _6; …; room for _5; …]
-        peeks ! (B (κ, tt)) (Is (B (κ, tt))) (shows 𝓤 H A (B (κ, tt))) p (u′ ∷ []) (λ is-p.
-        land ! (from ! (stop !)) (init ! 5 refl (LL.lawful (T.the-type αᵉ) (T′.the-laws αᵉ) 𝓤 H A W .typed p _ is-p .0)) $
+        peeks ! (row (κ, tt)) (Is (row (κ, tt))) (shows 𝓤 H A (row (κ, tt))) p (u′ ∷ []) (λ is-p.
+        land ! (from ! (stop !)) (init ! 5 refl (reader-typed 𝓤 H A W αᵉ p _ is-p)) $
         use2 W (raw (Orders 𝓤 H A mem run .pre (to-order p u′ w m))) (goes-order p u′ w m is-w) $
         -- [what `order` asks; what s owns; _6; …]
         calls-at ! fm (Orders 𝓤 H A mem run) known-order (to-order p u′ w m) (and-then ! (load ! (from ! (stop !)) (look ! 4 refl)) (and-then ! (load ! (from ! (stop !)) (look ! 8 refl)) (no-more !))) (λ u″.
