@@ -1,0 +1,143 @@
+-- Each form is taken, and no line has two forms. Assumes nothing.
+use mathlib.Core.Path.{_≡_, refl, sym, ap, _∙_}
+use mathlib.Core.List.{List, [], _∷_, _++_, map}
+use mathlib.Core.Bool.{Bool, true, false, _&&_, cond, and-eq-true-iff, false≢true}
+use Prim.Native.Char.{code}
+use Prim.Native.Nat.{ℕ, _≤_}
+use native.Mathlib.Omega.{arith}
+use lib.ListN.{length, take, drop}
+use lib.Dec.{eqb}
+use borrow.Author.Tests.{eqb-true}
+use Rattle.digits.specs.Text.{same, bytes}
+use Rattle.line.specs.declared.Fields.{Fields}
+use Rattle.line.specs.declared.Field.{Field}
+use Rattle.line.specs.declared.Field.the-variants.{Channel, Signed, Unsigned, Digit, Question, FourDigits, ZeroThree, Enable, Disable, End, Never}
+use Rattle.line.specs.declared.Got.{Got}
+use Rattle.line.specs.declared.Got.the-variants.{Here, Absent}
+use Rattle.line.specs.declared.Order.{Order}
+use Rattle.line.specs.declared.Parsed.{Parsed}
+use Rattle.line.specs.declared.Parsed.the-variants.{Is, Nothing}
+use Rattle.line.specs.Shapes.{noFields, withChannel, withWritten, withFirst, withSecond, readFields}
+use Rattle.line.specs.Forms.{Row, forms, complete, fieldsAsRow, asRow, firstOf, firstForm, orderOf}
+use Rattle.line.specs.Finding.{those}
+use Rattle.line.specs.Computing.{computing-line}
+use Rattle.line.proofs.StencilLaws.{Range, fits, apart, apart-not, stencil, ends, fields-fit, letters, word-fits}
+
+-- An example of each field, with what it is worth.
+abbrev pub sample : Field → List ℕ
+sample Channel = bytes "B"
+sample Signed = bytes "-5"
+sample Unsigned = bytes "0400"
+sample Digit = bytes "3"
+sample Question = bytes "?"
+sample FourDigits = bytes "1012"
+sample ZeroThree = bytes "0110"
+sample Enable = bytes "EN"
+sample Disable = bytes "DS"
+sample End = []
+sample Never = []
+
+abbrev pub worth : Field → Fields → Fields
+worth Channel f = withChannel f 11
+worth Signed f = withWritten f true 5
+worth Unsigned f = withWritten f false 400
+worth Digit f = withWritten f false 3
+worth Question f = f
+worth FourDigits f = withFirst f (record { a = 1; b = 0; c = 1; d = 2 })
+worth ZeroThree f = withSecond f (record { a = 0; b = 1; c = 1; d = 0 })
+worth Enable f = f
+worth Disable f = f
+worth End f = f
+worth Never f = f
+
+abbrev pub samples : List Field → List ℕ
+samples [] = []
+samples (k ∷ ks) = sample k ++ samples ks
+
+abbrev pub worths : List Field → Fields → Fields
+worths [] f = f
+worths (k ∷ ks) f = worths ks (worth k f)
+
+-- Each word is taken: the example line of every row is found as that row's order, and as no earlier row's.
+pub each-taken : map (λ r. orderOf (r .word ++ samples (r .fields))) forms ≡ map (λ r. Is (r .order (worths (r .fields) noFields))) forms
+unfolding computing-line
+each-taken = refl
+
+-- a row's stencil: its word, then its fields
+abbrev pub outline : Row → List (List Range)
+outline r = letters (r .word) ++ stencil (r .fields)
+
+abbrev pub order? : Parsed → Bool
+order? (Is o) = true
+order? Nothing = false
+
+-- Fields that make an order reach the end of the line.
+whole-fit : (r : Row) (s : List ℕ) (at : ℕ) (o : Order) → fieldsAsRow r s at ≡ Is o → fits (stencil (r .fields)) (ends (r .fields)) (drop at s) ≡ true
+unfolding fieldsAsRow
+whole-fit r s at o e = go (readFields (r .fields) noFields s at) refl e
+  where
+    go : (t : Got) → readFields (r .fields) noFields s at ≡ t → complete (r .order) s t ≡ Is o → fits (stencil (r .fields)) (ends (r .fields)) (drop at s) ≡ true
+    go (Here f to) p e = end (eqb to (length s)) refl e
+      where
+        end : (t : Bool) → eqb to (length s) ≡ t → cond t (Is (r .order f)) Nothing ≡ Is o → fits (stencil (r .fields)) (ends (r .fields)) (drop at s) ≡ true
+        end true q e = fields-fit (r .fields) noFields f s at (p ∙ ap (Here f) (eqb-true to (length s) q))
+        end false q e = absurd (false≢true (ap order? e))
+    go Absent p e = absurd (false≢true (ap order? e))
+
+-- A line that has a row's form fits the row's stencil.
+pub row-fits : (r : Row) (s : List ℕ) (o : Order) → asRow r s ≡ Is o → fits (outline r) (ends (r .fields)) s ≡ true
+unfolding asRow
+row-fits r s o e = go (same (take (length (r .word)) s) (r .word)) refl e
+  where
+    go : (t : Bool) → same (take (length (r .word)) s) (r .word) ≡ t → cond t (fieldsAsRow r s (length (r .word))) Nothing ≡ Is o
+        → fits (outline r) (ends (r .fields)) s ≡ true
+    go true p e = word-fits (r .word) s (stencil (r .fields)) (ends (r .fields)) p (whole-fit r s (length (r .word)) o e)
+    go false p e = absurd (false≢true (ap order? e))
+
+-- So a line that fits a stencil apart from the row's has not the row's form.
+pub apart-nothing : (cs : List (List Range)) (a : Bool) (r : Row) (s : List ℕ) → apart cs a (outline r) (ends (r .fields)) ≡ true → fits cs a s ≡ true
+    → asRow r s ≡ Nothing
+apart-nothing cs a r s h f = go (asRow r s) refl
+  where
+    go : (t : Parsed) → asRow r s ≡ t → asRow r s ≡ Nothing
+    go (Is o) e = absurd (false≢true (sym (apart-not cs a (outline r) (ends (r .fields)) s h f) ∙ row-fits r s o e))
+    go Nothing e = e
+
+-- a row is apart from others, and rows from each other
+apartFrom : Row → List Row → Bool
+apartFrom r [] = true
+apartFrom r (q ∷ qs) = apart (outline r) (ends (r .fields)) (outline q) (ends (q .fields)) && apartFrom r qs
+
+pairwise : List Row → Bool
+pairwise [] = true
+pairwise (r ∷ rs) = apartFrom r rs && pairwise rs
+
+forms-apart : pairwise forms ≡ true
+unfolding computing-line pairwise apartFrom
+forms-apart = refl
+
+-- the rows whose form a line has
+abbrev pub formsOf : List ℕ → List Row → List Row
+formsOf s rs = those (λ r. order? (asRow r s)) rs
+
+none-other : (r : Row) (rs : List Row) (s : List ℕ) (o : Order) → apartFrom r rs ≡ true → asRow r s ≡ Is o → formsOf s rs ≡ []
+unfolding those apartFrom
+none-other r [] s o h e = refl
+none-other r (q ∷ qs) s o h e =
+    let both = and-eq-true-iff (apart (outline r) (ends (r .fields)) (outline q) (ends (q .fields))) (apartFrom r qs) .0 h in
+    rw (apart-nothing (outline r) (ends (r .fields)) q s (both .0) (row-fits r s o e)) (none-other r qs s o (both .1) e)
+
+one-of : (rs : List Row) (s : List ℕ) → pairwise rs ≡ true → length (formsOf s rs) ≤ 1
+unfolding those pairwise
+one-of [] s h = omega arith
+one-of (r ∷ rs) s h =
+    let both = and-eq-true-iff (apartFrom r rs) (pairwise rs) .0 h in
+    go (asRow r s) refl (both .0) (one-of rs s (both .1))
+  where
+    go : (t : Parsed) → asRow r s ≡ t → apartFrom r rs ≡ true → length (formsOf s rs) ≤ 1 → length (formsOf s (r ∷ rs)) ≤ 1
+    go (Is o) e h i = rw (e, none-other r rs s o h e) (omega arith)
+    go Nothing e h i = rw e i
+
+-- No line has two forms.
+pub one-form : (s : List ℕ) → length (formsOf s forms) ≤ 1
+one-form s = one-of forms s forms-apart
