@@ -3,10 +3,11 @@
 
 use line::Parsed;
 use line::Word;
-use line::order_at;
-use line::word_at;
+use line::finding::word_at;
+use line::orders::order_at;
 ghost use mathlib.Core.Path.{_≡_};
-ghost use Rattle.line.specs.Finding.{wordAt, orderAt, lineOrder};
+ghost use Rattle.line.specs.Finding.{wordAt, orderAt};
+ghost use Rattle.line.specs.Forms.{orderOf};
 
 pub struct Reader<'a> {
     pub line: &'a [u8],
@@ -46,7 +47,7 @@ pub fn order<'a>(r: Reader<'a>, w: Word) -> Parsed
 
 // The order that a line is, for every list of bytes.
 pub fn read_line(line: &[u8]) -> Parsed
-    ensures { λ o. ⌜ o ≡ lineOrder (now (line .entry)) ⌝ }
+    ensures { λ o. ⌜ o ≡ orderOf (now (line .entry)) ⌝ }
 {
     let r = open(line);
     let w = word(r);

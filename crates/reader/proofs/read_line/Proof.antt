@@ -36,7 +36,9 @@ use denote.Triple.Table.{entered, cited}
 use denote.Triple.Walked.{says, Stays, stay-none-slice, walkOf, goes-none-slice, Walks, ends-at, walked, walk-meets}
 use denote.Exit.{yes}
 use denote.Triple.Clauses.{ensured, lasts}
-use Rattle.line.specs.Finding.{wordAt, orderAt, lineOrder}
+use Rattle.line.specs.Finding.{wordAt, orderAt}
+use Rattle.line.specs.Forms.{orderOf}
+use Rattle.line.proofs.FindingLaws.{order-found}
 use Rattle.line.specs.declared.Parsed.{Parsed}
 use Rattle.line.specs.declared.Word.{Word}
 use Rattle.line.proofs.Parsed as P
@@ -65,16 +67,11 @@ use Rattle.reader.proofs.read_line as read
 use Rattle.reader.proofs.read_line.Statement as stated
 use Rattle.reader.proofs.read_line.Code as code
 
--- the order that the first word makes with the fields after it is the line's
-whole-line : (s : List ℕ) → orderAt s (wordAt s 0 .end) (wordAt s 0) ≡ lineOrder s
-unfolding lineOrder
-whole-line s = refl
-
 -- what the four calls say of their results, together
-line-said : (s : RefT (List ℕ)) (r p : Reader) (w : Word) (o : Parsed) → (r .line ≡ s) × (r .place ≡ 0) → w ≡ wordAt (now (r .line)) (r .place) → (p .line ≡ r .line) × (p .place ≡ w .end) → o ≡ orderAt (now (p .line)) (p .place) w → o ≡ lineOrder (now s)
+line-said : (s : RefT (List ℕ)) (r p : Reader) (w : Word) (o : Parsed) → (r .line ≡ s) × (r .place ≡ 0) → w ≡ wordAt (now (r .line)) (r .place) → (p .line ≡ r .line) × (p .place ≡ w .end) → o ≡ orderAt (now (p .line)) (p .place) w → o ≡ orderOf (now s)
 line-said s r p w o opened found moved made =
     made ∙ (ap (λ (x : RefT (List ℕ)). orderAt (now x) (p .place) w) (moved .0 ∙ opened .0) ∙ (ap (λ (n : ℕ). orderAt (now s) n w) (moved .1)
-    ∙ (ap (λ (x : Word). orderAt (now s) (x .end) x) (found ∙ (ap (λ (x : RefT (List ℕ)). wordAt (now x) (r .place)) (opened .0) ∙ ap (wordAt (now s)) (opened .1))) ∙ whole-line (now s))))
+    ∙ (ap (λ (x : Word). orderAt (now s) (x .end) x) (found ∙ (ap (λ (x : RefT (List ℕ)). wordAt (now x) (r .place)) (opened .0) ∙ ap (wordAt (now s)) (opened .1))) ∙ order-found (now s))))
 
 abbrev stayed : Stays (read.ended .signature .params) (read.ended .kept)
 stayed = (stay-none-slice (0 ∷ []) tt (plain (λ _. u8)) yes, tt)
@@ -153,7 +150,7 @@ module _ {M : Type 1} (𝓤 : URA M) (H : Heap 𝓤) (A : Atoms 𝓤) (W : Given
   order-said : (r : Reader) (w : Word) (o : Parsed) → ent 𝓤 (ensured 𝓤 H A order.ended (order.clauses 𝓤 H A mem run) (κ, tt) (r, (w, tt)) tt o) (fact 𝓤 (o ≡ orderAt (now (r .line)) (r .place) w))
   order-said r w o = exE 𝓤 _ (λ ws. snd∗ 𝓤 (sem 𝓤 H A (lasts order.ended (κ, tt) (r, (w, tt)) ws)) (fact 𝓤 (o ≡ orderAt (now (r .line)) (r .place) w)))
 
-  exits : (o : Parsed) (u : Val) → o ≡ lineOrder (now s) → ent 𝓤 (⋆ 𝓤 H A (‵ (P.the-row .own o (u ∷ [])) ∷ (‵ (flft κ q) ⊛ ‵ ftrue) ∷ ‵ Own ∷ [])) (Post u)
+  exits : (o : Parsed) (u : Val) → o ≡ orderOf (now s) → ent 𝓤 (⋆ 𝓤 H A (‵ (P.the-row .own o (u ∷ [])) ∷ (‵ (flft κ q) ⊛ ‵ ftrue) ∷ ‵ Own ∷ [])) (Post u)
   exits o u e =
       qed W (‵ (P.the-row .own o (u ∷ [])) ∷ (‵ (flft κ q) ⊛ ‵ ftrue) ∷ ‵ Own ∷ []) ∵
       suffices ! _ (ends-at 𝓤 H A read.ended stayed (read.clauses 𝓤 H A mem run) W (((κ, tt), (q, tt), tt, (s, tt), (v ∷ [], tt)), tt) u o (tt, tt) (tt, tt)) $ says ! e $
