@@ -18,8 +18,7 @@ use Rattle.line.specs.declared.Order.{Order}
 use Rattle.line.specs.declared.Parsed.{Parsed}
 use Rattle.line.specs.declared.Parsed.the-variants.{Is, Nothing}
 use Rattle.line.specs.Shapes.{noFields, withChannel, withWritten, withFirst, withSecond, readFields}
-use Rattle.line.specs.Forms.{Row, forms, complete, fieldsAsRow, asRow, firstOf, firstForm, orderOf}
-use Rattle.line.specs.Finding.{those}
+use Rattle.line.specs.Forms.{Row, forms, those, complete, fieldsAsRow, asRow, firstOf, firstForm, orderOf}
 use Rattle.line.specs.Computing.{computing-line}
 use Rattle.line.proofs.StencilLaws.{Range, fits, apart, apart-not, stencil, ends, fields-fit, letters, word-fits}
 

@@ -2,9 +2,8 @@
 -- definition that is otherwise shut. It says nothing itself.
 use Rattle.digits.specs.Computing.{computing-digits}
 use Rattle.line.specs.Shapes.{readChannel, readNumber, readSigned, readDigit, readQuestion, readLetters, readFour, readZeroThree, readFields, readShape}
-use Rattle.line.specs.Forms.{fieldsAsRow, asRow, forms, firstForm, orderOf}
-use Rattle.line.specs.Finding.{packed, those, rowsWith, isWord, longest, wordAt, repeated, firstFormOf, secondFormOf, caseAt, orderAt}
+use Rattle.line.specs.Forms.{fieldsAsRow, asRow, forms, those, firstForm, orderOf}
 
 unfoldable pub computing-line : Unit {0}
-unfolding computing-digits readChannel readNumber readSigned readDigit readQuestion readLetters readFour readZeroThree readFields readShape fieldsAsRow asRow forms firstForm orderOf packed those rowsWith isWord longest wordAt repeated firstFormOf secondFormOf caseAt orderAt
+unfolding computing-digits readChannel readNumber readSigned readDigit readQuestion readLetters readFour readZeroThree readFields readShape fieldsAsRow asRow forms those firstForm orderOf
 computing-line = tt

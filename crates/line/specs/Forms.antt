@@ -2,7 +2,7 @@
 use Prim.Native.Nat.{ℕ}
 use Prim.Native.String as S
 use mathlib.Core.List.{List, [], _∷_, _++_}
-use mathlib.Core.Bool.{cond}
+use mathlib.Core.Bool.{Bool, cond}
 use lib.ListN.{length, take}
 use lib.Dec.{leb, eqb}
 use Rattle.digits.specs.Text.{bytes, same}
@@ -150,6 +150,11 @@ asRow r s =
 -- all the forms of document 01
 unfoldable pub forms : List Row
 forms = startRows ++ (stopRows ++ (settingRows ++ (questionRows ++ headRows)))
+
+-- the rows that pass a test
+unfoldable pub those : (Row → Bool) → List Row → List Row
+those p [] = []
+those p (r ∷ rs) = cond (p r) (r ∷ those p rs) (those p rs)
 
 -- what was found, or else what is found later
 abbrev pub firstOf : Parsed → Parsed → Parsed

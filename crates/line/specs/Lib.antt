@@ -1,4 +1,3 @@
 pub mod Shapes
 pub mod Forms
-pub mod Finding
 pub mod Computing

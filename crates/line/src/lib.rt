@@ -2,9 +2,6 @@
 // its place among the refusals. The lines themselves are listed in specs/Forms.antt, row by row.
 
 pub mod field_reading;
-pub mod finding;
-pub mod forms;
-pub mod orders;
 
 // A number as it was written: its sign, and the value of its 1 to 10 digits.
 pub struct Written {
@@ -63,12 +60,6 @@ pub struct Shape {
 pub enum Got {
     Here(Fields, usize),
     Absent,
-}
-
-// A word by its letters, the last one lowest, and the place after it; no letters where no word stands.
-pub struct Word {
-    pub letters: u64,
-    pub end: usize,
 }
 
 // Starts. A direction is 1 for CW (P) and 2 for CCW (N).
@@ -152,12 +143,6 @@ pub enum Order {
     ClearErrors,
     // ERRCe
     ClearError(u64),
-}
-
-// A form: what follows its word, and its order with the fields left blank.
-pub struct Form {
-    pub shape: Shape,
-    pub order: Order,
 }
 
 // What a line is: an order, or nothing that has one of the forms.

@@ -32,9 +32,9 @@ use denote.Struct.Laws as LL
 use denote.Struct.Rest.{all-own, rest, own-open, own-out}
 use denote.Triple.Walked.{Stay, stay-none, Goes, goes-none}
 use denote.Exit.{yes}
-use Rattle.line.specs.declared.Word.{Word}
-use Rattle.line.proofs.Word as S
-use Rattle.line.proofs.Word.Laws as S′
+use Rattle.form.specs.declared.Word.{Word}
+use Rattle.form.proofs.Word as S
+use Rattle.form.proofs.Word.Laws as S′
 use Rattle.reader.specs.declared.Reader.{Reader}
 use Rattle.reader.proofs.Reader as T
 use Rattle.reader.proofs.Reader.Laws as T′

@@ -1,12 +1,15 @@
 // The line in hand and the place reached, together: a reader over the caller's bytes. Each function takes the reader apart and
-// leaves the work to one over the slice and the number (crate line); `read_line` is for everyone else.
+// leaves the work to one over the slice and the number; `read_line` is for everyone else.
 
+pub mod finding;
+pub mod orders;
+
+use crate::finding::word_at;
+use crate::orders::order_at;
+use form::Word;
 use line::Parsed;
-use line::Word;
-use line::finding::word_at;
-use line::orders::order_at;
 ghost use mathlib.Core.Path.{_≡_};
-ghost use Rattle.line.specs.Finding.{wordAt, orderAt};
+ghost use Rattle.reader.specs.Finding.{wordAt, orderAt};
 ghost use Rattle.line.specs.Forms.{orderOf};
 
 pub struct Reader<'a> {

@@ -31,9 +31,9 @@ use denote.Triple.Entry.{Vals, onEntry}
 use denote.Triple.Spec.{Meets, tripleOf}
 use denote.Triple.Table.{entered}
 use denote.Triple.Walked.{says, Stays, walkOf, Walks, ends-at, walked, walk-meets}
-use Rattle.line.specs.declared.Word.{Word}
-use Rattle.line.proofs.Word as S
-use Rattle.line.proofs.Word.Laws as S′
+use Rattle.form.specs.declared.Word.{Word}
+use Rattle.form.proofs.Word as S
+use Rattle.form.proofs.Word.Laws as S′
 use Rattle.reader.specs.declared.Reader.{Reader}
 use Rattle.reader.proofs.Held.{row, type, laws, OwnReader, stay-reader, stay-word, reader-copy, reader-typed, word-typed, goes-reader, goes-word}
 use Rattle.reader.proofs.Reader.Laws as T′

@@ -36,14 +36,14 @@ use denote.Triple.Table.{entered, cited}
 use denote.Triple.Walked.{says, Stays, stay-none-slice, walkOf, goes-none-slice, Walks, ends-at, walked, walk-meets}
 use denote.Exit.{yes}
 use denote.Triple.Clauses.{ensured, lasts}
-use Rattle.line.specs.Finding.{wordAt, orderAt}
+use Rattle.reader.specs.Finding.{wordAt, orderAt}
 use Rattle.line.specs.Forms.{orderOf}
-use Rattle.line.proofs.FindingLaws.{order-found}
+use Rattle.reader.proofs.FindingLaws.{order-found}
 use Rattle.line.specs.declared.Parsed.{Parsed}
-use Rattle.line.specs.declared.Word.{Word}
+use Rattle.form.specs.declared.Word.{Word}
 use Rattle.line.proofs.Parsed as P
 use Rattle.line.proofs.Parsed.Laws as P′
-use Rattle.line.proofs.Word as S
+use Rattle.form.proofs.Word as S
 use Rattle.reader.specs.declared.Reader.{Reader}
 use Rattle.reader.proofs.Held.{row, OwnReader, reader-copy, reader-typed, word-typed, word-makes}
 use Rattle.reader.proofs.open as opening

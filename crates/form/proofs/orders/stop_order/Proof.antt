@@ -1,0 +1,35 @@
+use mathlib.Core.Path.{refl}
+use Rattle.line.specs.Forms.{stopRows}
+use Rattle.form.specs.Computing.{computing-form}
+use Rattle.form.proofs.TableLaws.{keys, flat, rest-none, none-with}
+use Rattle.form.proofs.orders.stop_order.Statement.{statement}
+use Rattle.form.proofs.orders.stop_order.Tie as tie
+
+returns : tie.Need-returns
+unfolding computing-form
+returns c = rw (c .match .keys1)
+
+returns-2 : tie.Need-returns-2
+unfolding computing-form
+returns-2 c = rw (c .match .keys2)
+
+returns-3 : tie.Need-returns-3
+unfolding computing-form
+returns-3 c = rw (c .match .keys3)
+
+returns-4 : tie.Need-returns-4
+unfolding computing-form
+returns-4 c = rw (c .match .keys4)
+
+returns-5 : tie.Need-returns-5
+unfolding computing-form
+returns-5 c = rw (c .match .keys5)
+
+returns-6 : tie.Need-returns-6
+unfolding computing-form
+returns-6 c =
+    let n = c .before .before .args .word in
+    rw (none-with (flat (keys stopRows)) stopRows n refl (rest-none (keys stopRows) n (c .match .rest)))
+
+pub stop-order-spec : {M : Type 1} → statement M
+stop-order-spec = tie.close (tie.spec returns returns-2 returns-3 returns-4 returns-5 returns-6)

@@ -1,0 +1,280 @@
+-- The longest word finds each form and nothing else: `orderAt` after `wordAt` is `orderOf`. Assumes nothing.
+use mathlib.Core.Path.{_≡_, refl, sym, ap, _∙_}
+use mathlib.Core.List.{List, [], _∷_, _++_, map, append-nil, head-eq-of-cons-eq, tail-eq-of-cons-eq}
+use mathlib.Core.Bool.{Bool, true, false, not, _&&_, _||_, cond, and-eq-true-iff, false≢true}
+use Prim.Native.Nat.{ℕ, zero, suc, _+_, _-_, _<_, _≤_, min}
+use native.Mathlib.Nat.{zero-add, not-suc-le-zero}
+use native.Mathlib.Omega.{arith}
+use lib.ListN.{length, take, drop}
+use lib.Seq.{take-all, length-take-le}
+use lib.Dec.{leb, eqb}
+use borrow.Author.Tests.{leb-true, leb-false, le-leb, lt-leb}
+use Rattle.digits.specs.Text.{same}
+use Rattle.line.specs.declared.Field.{Field}
+use Rattle.line.specs.declared.Got.{Got}
+use Rattle.line.specs.declared.Got.the-variants.{Here, Absent}
+use Rattle.line.specs.declared.Parsed.{Parsed}
+use Rattle.line.specs.declared.Parsed.the-variants.{Is, Nothing}
+use Rattle.line.specs.Shapes.{noFields, readField, readFields, onward, readShape}
+use Rattle.line.specs.Forms.{Row, forms, those, complete, fieldsAsRow, asRow, firstOf, firstForm, orderOf}
+use Rattle.line.proofs.StencilLaws.{fits, apart, ends, letters, word-fits}
+use Rattle.line.proofs.FormLaws.{outline, apart-nothing}
+use Rattle.form.specs.Table.{packed, rowsWith, isWord, repeated, rowsBy, shapeOf, fieldsBy, orderBy, shapeAfter, orderWith}
+use Rattle.form.specs.Computing.{computing-form}
+use Rattle.reader.specs.Finding.{longest, marked, wordAt, whole, caseAt, orderAt}
+use Rattle.reader.proofs.LetterLaws.{same-equal, same-itself, longest-whole}
+
+-- what holds of every row
+Every : (Row → Type 0) → List Row → Type 0
+Every P [] = Unit {0}
+Every P (r ∷ rs) = P r × Every P rs
+
+every-map : {A : Type 0} (F G : Row → A) (rs : List Row) → map F rs ≡ map G rs → Every (λ r. F r ≡ G r) rs
+unfolding Every
+every-map F G [] e = tt
+every-map F G (r ∷ rs) e = (head-eq-of-cons-eq e, every-map F G rs (tail-eq-of-cons-eq e))
+
+-- the row of a word, with what holds of it
+row-of : (P : Row → Type 0) (rs : List Row) (t : List ℕ) → Every P rs → isWord rs t ≡ true → (r : Row) × (t ≡ r .word) × P r
+unfolding Every isWord
+row-of P [] t h e = absurd (false≢true e)
+row-of P (r ∷ rs) t h e = go (same t (r .word)) refl e (row-of P rs t (h .1))
+  where
+    go : (b : Bool) → same t (r .word) ≡ b → (b || isWord rs t) ≡ true → (isWord rs t ≡ true → (r : Row) × (t ≡ r .word) × P r) → (r : Row) × (t ≡ r .word) × P r
+    go true p e later = (r, same-equal t (r .word) p, h .0)
+    go false p e later = later e
+
+-- a line with nothing found later
+first-nothing : (a : Parsed) → firstOf a Nothing ≡ a
+first-nothing (Is o) = refl
+first-nothing Nothing = refl
+
+-- the rows whose words have n letters at most, and those that a line may have that begins with a word
+abbrev below : ℕ → List Row → List Row
+below n rs = those (λ r. leb (length (r .word)) n) rs
+
+abbrev like : List ℕ → List Row → List Row
+like w rs = those (λ r. not (apart (letters w) false (outline r) (ends (r .fields)))) rs
+
+narrow : (w s : List ℕ) (rs : List Row) → same (take (length w) s) w ≡ true → firstForm rs s ≡ firstForm (like w rs) s
+unfolding firstForm those
+narrow w s [] h = refl
+narrow w s (r ∷ rs) h = go (apart (letters w) false (outline r) (ends (r .fields))) refl (narrow w s rs h)
+  where
+    begins : fits (letters w) false s ≡ true
+    begins = (rw (append-nil (letters w)) at (word-fits w s [] false h refl))
+
+    go : (t : Bool) → apart (letters w) false (outline r) (ends (r .fields)) ≡ t → firstForm rs s ≡ firstForm (like w rs) s
+        → firstForm (r ∷ rs) s ≡ firstForm (like w (r ∷ rs)) s
+    go true e i = rw (e, apart-nothing (letters w) false r s e begins) i
+    go false e i = rw (e, i)
+
+-- A row does not count where its word does not stand.
+no-word : (r : Row) (s : List ℕ) → same (take (length (r .word)) s) (r .word) ≡ false → asRow r s ≡ Nothing
+unfolding asRow
+no-word r s e = rw e
+
+-- Words of one letter more add nothing where none of them stands.
+shorter : (rs : List Row) (s : List ℕ) (n : ℕ) → isWord rs (take (suc n) s) ≡ false → firstForm (below (suc n) rs) s ≡ firstForm (below n rs) s
+unfolding firstForm those isWord
+shorter [] s n h = refl
+shorter (r ∷ rs) s n h = head (same (take (suc n) s) (r .word)) refl h (shorter rs s n)
+  where
+    -- the row itself, by the number of its letters
+    by-length : (a b : Bool) → leb (length (r .word)) (suc n) ≡ a → leb (length (r .word)) n ≡ b → same (take (suc n) s) (r .word) ≡ false
+        → firstForm (below (suc n) rs) s ≡ firstForm (below n rs) s → firstForm (below (suc n) (r ∷ rs)) s ≡ firstForm (below n (r ∷ rs)) s
+    by-length true true p q e i = rw (p, q, i)
+    by-length true false p q e i =
+        let l : length (r .word) ≤ suc n = leb-true (length (r .word)) (suc n) p in
+        let m : n < length (r .word) = leb-false (length (r .word)) n q in
+        let k : length (r .word) ≡ suc n = omega arith in
+        rw (p, q, no-word r s (rw k e)) i
+    by-length false true p q e i =
+        let l : length (r .word) ≤ n = leb-true (length (r .word)) n q in
+        let m : suc n < length (r .word) = leb-false (length (r .word)) (suc n) p in
+        absurd (omega arith)
+    by-length false false p q e i = rw (p, q) i
+
+    head : (t : Bool) → same (take (suc n) s) (r .word) ≡ t → (t || isWord rs (take (suc n) s)) ≡ false
+        → (isWord rs (take (suc n) s) ≡ false → firstForm (below (suc n) rs) s ≡ firstForm (below n rs) s)
+        → firstForm (below (suc n) (r ∷ rs)) s ≡ firstForm (below n (r ∷ rs)) s
+    head true e h later = absurd (false≢true (sym h))
+    head false e h later = by-length (leb (length (r .word)) (suc n)) (leb (length (r .word)) n) refl refl e (later h)
+
+-- Words that are longer than the line do not stand.
+within-line : (rs : List Row) (s : List ℕ) (n : ℕ) → length s ≤ n → firstForm rs s ≡ firstForm (below n rs) s
+unfolding firstForm those
+within-line [] s n h = refl
+within-line (r ∷ rs) s n h = go (leb (length (r .word)) n) refl (within-line rs s n h)
+  where
+    absent : (t : Bool) → n < length (r .word) → same (take (length (r .word)) s) (r .word) ≡ t → t ≡ false
+    absent true l e =
+        let k : length s ≡ length (r .word) = ap length (sym (take-all (length (r .word)) s (omega arith)) ∙ same-equal (take (length (r .word)) s) (r .word) e) in
+        absurd (omega arith)
+    absent false l e = refl
+
+    go : (t : Bool) → leb (length (r .word)) n ≡ t → firstForm rs s ≡ firstForm (below n rs) s → firstForm (r ∷ rs) s ≡ firstForm (below n (r ∷ rs)) s
+    go true e i = rw (e, i)
+    go false e i =
+        let l : n < length (r .word) = leb-false (length (r .word)) n e in
+        rw (e, no-word r s (absent (same (take (length (r .word)) s) (r .word)) l refl)) i
+
+-- Fields read by three are the fields read one after the other.
+shape-fields : (ks : List Field) (s : List ℕ) (at : ℕ) → length ks ≤ 3 → readShape (shapeOf ks) s at ≡ readFields ks noFields s at
+unfolding readShape readFields
+shape-fields [] s at h = refl
+shape-fields (a ∷ []) s at h = go (readField a noFields s at)
+  where
+    go : (t : Got) → onward (onward t (λ f to. Here f to)) (λ f to. Here f to) ≡ onward t (λ f to. Here f to)
+    go (Here f to) = refl
+    go Absent = refl
+shape-fields (a ∷ b ∷ []) s at h = go (readField a noFields s at)
+  where
+    go : (t : Got) → onward (onward t (λ f to. readField b f s to)) (λ f to. Here f to) ≡ onward t (λ f to. onward (readField b f s to) (λ g up. Here g up))
+    go (Here f to) = refl
+    go Absent = refl
+shape-fields (a ∷ b ∷ c ∷ []) s at h = go (readField a noFields s at)
+  where
+    last : (t : Got) → t ≡ onward t (λ f to. Here f to)
+    last (Here f to) = refl
+    last Absent = refl
+
+    next : (t : Got) → onward t (λ f to. readField c f s to) ≡ onward t (λ f to. onward (readField c f s to) (λ g up. Here g up))
+    next (Here f to) = last (readField c f s to)
+    next Absent = refl
+
+    go : (t : Got) → onward (onward t (λ f to. readField b f s to)) (λ f to. readField c f s to) ≡ onward t (λ f to. onward (readField b f s to) (λ g up. onward (readField c g s up) (λ h on. Here h on)))
+    go (Here f to) = next (readField b f s to)
+    go Absent = refl
+shape-fields (a ∷ b ∷ c ∷ d ∷ ks) s at h = absurd (omega arith)
+
+-- what the code makes of the first of some rows
+abbrev caseBy : List Row → List ℕ → ℕ → Parsed
+caseBy rs s at = whole (λ f. orderBy rs f Nothing) s (readShape (shapeOf (fieldsBy rs)) s at)
+
+-- A row whose word stands makes the order that the code makes of it.
+row-case : (r : Row) (rs : List Row) (w s : List ℕ) → length (r .fields) ≤ 3 → r .word ≡ w → same (take (length w) s) w ≡ true
+    → asRow r s ≡ caseBy (r ∷ rs) s (length w)
+unfolding asRow fieldsAsRow
+row-case r rs w s m e h = rw (e, h, shape-fields (r .fields) s (length w) m) (go (readFields (r .fields) noFields s (length w)))
+  where
+    go : (t : Got) → complete (r .order) s t ≡ whole (λ f. Is (r .order f)) s t
+    go (Here f at) = refl
+    go Absent = refl
+
+-- What no line has makes no order.
+never : (s : List ℕ) (at : ℕ) → caseBy [] s at ≡ Nothing
+unfolding readShape
+never s at = refl
+
+-- what the code answers for a word at the front of a line
+abbrev answer : List ℕ → List ℕ → Parsed
+answer s w = firstOf (caseAt false (packed w) s (length w)) (caseAt true (packed w) s (length w))
+
+-- One or two rows of a word that stands make the orders of its forms.
+rows-answer : (rs : List Row) (w s : List ℕ) → length rs ≤ 2 → Every (λ r. length (r .fields) ≤ 3) rs → Every (λ r. r .word ≡ w) rs
+    → same (take (length w) s) w ≡ true → firstForm rs s ≡ firstOf (caseBy rs s (length w)) (caseBy (drop 1 rs) s (length w))
+unfolding firstForm Every
+rows-answer [] w s l m e h = rw (never s (length w))
+rows-answer (r ∷ []) w s l m e h = rw (row-case r [] w s (m .0) (e .0) h, never s (length w))
+rows-answer (r ∷ q ∷ []) w s l m e h =
+    rw (row-case r (q ∷ []) w s (m .0) (e .0) h, row-case q [] w s (m .1 .0) (e .1 .0) h, first-nothing (caseBy (q ∷ []) s (length w)))
+rows-answer (a ∷ b ∷ c ∷ rs) w s l m e h = absurd (omega arith)
+
+-- What is computed over the table, for each row's word: the rows that a line may have which begins with it, of no longer words,
+-- are the rows of that word; they are one or two, the second of them by itself too.
+record Alike (r : Row) : Type 0 where
+  rows : like (r .word) (below (length (r .word)) forms) ≡ rowsBy false (packed (r .word))
+  second : rowsBy true (packed (r .word)) ≡ drop 1 (rowsBy false (packed (r .word)))
+  few : length (rowsBy false (packed (r .word))) ≤ 2
+  fields : Every (λ q. length (q .fields) ≤ 3) (rowsBy false (packed (r .word)))
+  words : Every (λ q. q .word ≡ r .word) (rowsBy false (packed (r .word)))
+
+every-few : (rs : List Row) → map (λ q. leb (length (q .fields)) 3) rs ≡ map (λ q. true) rs → Every (λ q. length (q .fields) ≤ 3) rs
+unfolding Every
+every-few [] h = tt
+every-few (r ∷ rs) h = (leb-true (length (r .fields)) 3 (head-eq-of-cons-eq h), every-few rs (tail-eq-of-cons-eq h))
+
+abbrev rowsOf : Row → List Row
+rowsOf r = rowsBy false (packed (r .word))
+
+every-alike : (rs : List Row) → map (λ r. like (r .word) (below (length (r .word)) forms)) rs ≡ map rowsOf rs
+    → map (λ r. rowsBy true (packed (r .word))) rs ≡ map (λ r. drop 1 (rowsOf r)) rs
+    → map (λ r. leb (length (rowsOf r)) 2) rs ≡ map (λ r. true) rs
+    → map (λ r. map (λ q. leb (length (q .fields)) 3) (rowsOf r)) rs ≡ map (λ r. map (λ q. true) (rowsOf r)) rs
+    → map (λ r. map (λ q. q .word) (rowsOf r)) rs ≡ map (λ r. map (λ q. r .word) (rowsOf r)) rs → Every Alike rs
+unfolding Every
+every-alike [] a b c d e = tt
+every-alike (r ∷ rs) a b c d e =
+    let one : Alike r =
+    record {
+      rows = head-eq-of-cons-eq a;
+      second = head-eq-of-cons-eq b;
+      few = leb-true (length (rowsOf r)) 2 (head-eq-of-cons-eq c);
+      fields = every-few (rowsOf r) (head-eq-of-cons-eq d);
+      words = every-map (λ q. q .word) (λ q. r .word) (rowsOf r) (head-eq-of-cons-eq e);
+    } in
+    (one, every-alike rs (tail-eq-of-cons-eq a) (tail-eq-of-cons-eq b) (tail-eq-of-cons-eq c) (tail-eq-of-cons-eq d) (tail-eq-of-cons-eq e))
+
+forms-alike : Every Alike forms
+unfolding computing-form
+forms-alike = every-alike forms refl refl refl refl refl
+
+-- The word of a row, where it stands and no longer one counts.
+row-answer : (r : Row) (s : List ℕ) → Alike r → same (take (length (r .word)) s) (r .word) ≡ true
+    → firstForm (below (length (r .word)) forms) s ≡ answer s (r .word)
+unfolding caseAt shapeAfter orderWith
+row-answer r s k h =
+    let n = length (r .word) in
+    narrow (r .word) s (below n forms) h
+    ∙ (rw (k .rows) (rows-answer (rowsOf r) (r .word) s (k .few) (k .fields) (k .words) h)
+    ∙ ap (λ (rs : List Row). firstOf (caseBy (rowsOf r) s n) (caseBy rs s n)) (sym (k .second)))
+
+-- Where no word stands there is no order.
+none-answer : (s : List ℕ) → firstForm (below 0 forms) s ≡ answer s []
+unfolding computing-form caseAt
+none-answer s = refl
+
+-- The longest word of n letters at most decides among the rows of such words.
+longest-answer : (n : ℕ) (s : List ℕ) → n ≤ length s → firstForm (below n forms) s ≡ answer s (longest n s)
+unfolding longest
+longest-answer zero s h = none-answer s
+longest-answer (suc n) s h = go (isWord forms (take (suc n) s)) refl (longest-answer n s (omega arith))
+  where
+    l : length (take (suc n) s) ≡ suc n
+    l = length-take-le (suc n) s h
+
+    hit : (r : Row) → take (suc n) s ≡ r .word → Alike r → firstForm (below (suc n) forms) s ≡ answer s (take (suc n) s)
+    hit r e k =
+        let m : length (r .word) ≡ suc n = sym (ap length e) ∙ l in
+        let b : same (take (length (r .word)) s) (r .word) ≡ true = rw (m, e) (same-itself (r .word)) in
+        rw (e, ← m) (row-answer r s k b)
+
+    go : (t : Bool) → isWord forms (take (suc n) s) ≡ t → firstForm (below n forms) s ≡ answer s (longest n s)
+        → firstForm (below (suc n) forms) s ≡ answer s (cond t (take (suc n) s) (longest n s))
+    go true e i =
+        let f = row-of Alike forms (take (suc n) s) forms-alike e in
+        hit (f .0) (f .1) (f .2)
+    go false e i = shorter forms s n e ∙ i
+
+forms-below : below 8 forms ≡ forms
+unfolding computing-form
+forms-below = refl
+
+-- No word has more than eight letters, nor more than the line.
+eight : (s : List ℕ) → firstForm forms s ≡ answer s (longest 8 s)
+eight s = go (leb (length s) 8) refl
+  where
+    go : (t : Bool) → leb (length s) 8 ≡ t → firstForm forms s ≡ answer s (longest 8 s)
+    go true e =
+        let h : length s ≤ 8 = leb-true (length s) 8 e in
+        let k : length s + (8 - length s) ≡ 8 = omega arith in
+        within-line forms s (length s) (omega arith)
+        ∙ (longest-answer (length s) s (omega arith)
+        ∙ ap (answer s) (sym (longest-whole (8 - length s) s) ∙ (rw k)))
+    go false e = rw (← forms-below) (longest-answer 8 s (omega (arith, leb-false (length s) 8 e)))
+
+-- A line is the order that its longest word makes with the fields after it, for every list of bytes, of every length.
+pub order-found : (s : List ℕ) → orderAt s (wordAt s 0 .end) (wordAt s 0) ≡ orderOf s
+unfolding orderAt wordAt orderOf
+order-found s = rw (zero-add (length (longest 8 s)), eight s)

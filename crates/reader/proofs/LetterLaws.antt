@@ -1,0 +1,259 @@
+-- Laws of words and their letters: the number of a word stands for that word alone, and the longest word is found letter by
+-- letter. Assumes nothing.
+use mathlib.Core.Path.{_≡_, refl, sym, ap, _∙_}
+use mathlib.Core.List.{List, [], _∷_, _++_, reverse, reverse-cons, reverse-append, reverse-reverse}
+use mathlib.Core.Bool.{Bool, true, false, _&&_, _||_, cond, and-eq-true-iff, false≢true}
+use Prim.Native.Nat.{ℕ, zero, suc, _+_, _*_, _/_, _%_, _-_, _<_, _≤_, min}
+use native.Mathlib.Nat.{add-zero, add-suc, not-suc-le-zero}
+use native.Mathlib.Omega.{arith}
+use lib.ListN.{length, take, drop, getD}
+use lib.Seq.{take-suc, take-all, length-take-le, getD-take}
+use lib.Dec.{eqb, ltb, leb}
+use borrow.Author.Tests.{eqb-true, eqb-false, eq-eqb, ne-eqb, lt-ltb, ltb-true, leb-true, leb-false}
+use Rattle.digits.specs.Bytes.{AllBytes, part}
+use Rattle.digits.specs.Words.{word}
+use Rattle.digits.specs.Text.{same, bytes}
+use Rattle.digits.proofs.PartLaws.{append-bytes, cons-bytes, none-bytes, part-bytes}
+use Rattle.line.specs.Forms.{Row, forms, those}
+use Rattle.form.specs.Table.{packed, rowsWith, isWord, rowsBy, shapeOf, fieldsBy, shapeAfter}
+use Rattle.form.specs.Computing.{computing-form}
+use Rattle.form.specs.declared.Word.{Word}
+use Rattle.reader.specs.Finding.{isThere, someRow, longest, marked, letterCount}
+
+-- Two texts that are the same are equal, and a text is the same as itself.
+pub same-equal : (s t : List ℕ) → same s t ≡ true → s ≡ t
+unfolding same
+same-equal [] [] e = refl
+same-equal [] (b ∷ t) e = absurd (false≢true e)
+same-equal (a ∷ s) [] e = absurd (false≢true e)
+same-equal (a ∷ s) (b ∷ t) e =
+    let both = and-eq-true-iff (eqb a b) (same s t) .0 e in
+    rw (eqb-true a b (both .0), same-equal s t (both .1))
+
+pub same-itself : (s : List ℕ) → same s s ≡ true
+unfolding same
+same-itself [] = refl
+same-itself (a ∷ s) = rw (eq-eqb a a refl, same-itself s)
+
+-- the last number of a list is none but zero
+topped : List ℕ → Bool
+topped [] = true
+topped (x ∷ []) = ltb 0 x
+topped (x ∷ y ∷ s) = topped (y ∷ s)
+
+topped-more : (x : ℕ) (s : List ℕ) → topped (x ∷ s) ≡ true → topped s ≡ true
+unfolding topped
+topped-more x [] h = refl
+topped-more x (y ∷ s) h = h
+
+topped-positive : (x : ℕ) (s : List ℕ) → topped (x ∷ s) ≡ true → 0 < word (x ∷ s)
+unfolding topped word
+topped-positive x [] h = let p : 0 < x = ltb-true 0 x h in omega arith
+topped-positive x (y ∷ s) h = let p : 0 < word (y ∷ s) = topped-positive y s h in omega arith
+
+topped-end : (s : List ℕ) (x : ℕ) → 0 < x → topped (s ++ (x ∷ [])) ≡ true
+unfolding topped
+topped-end [] x h = lt-ltb 0 x h
+topped-end (y ∷ []) x h = lt-ltb 0 x h
+topped-end (y ∷ z ∷ s) x h = topped-end (z ∷ s) x h
+
+-- Bytes are known from the number that they stand for, where the highest is not zero.
+word-one : (a b : List ℕ) → AllBytes a → AllBytes b → topped a ≡ true → topped b ≡ true → word a ≡ word b → a ≡ b
+unfolding word
+word-one [] [] f g s t e = refl
+word-one [] (y ∷ b) f g s t e = let p : 0 < word (y ∷ b) = topped-positive y b t in absurd (omega arith)
+word-one (x ∷ a) [] f g s t e = let p : 0 < word (x ∷ a) = topped-positive x a s in absurd (omega arith)
+word-one (x ∷ a) (y ∷ b) f g s t e =
+    let lx : x < 256 = f 0 in
+    let ly : y < 256 = g 0 in
+    let low : x ≡ y = omega arith in
+    let high : word a ≡ word b = omega arith in
+    rw (low, word-one a b (λ k. f (suc k)) (λ k. g (suc k)) (topped-more x a s) (topped-more y b t) high)
+
+-- a text of bytes whose first is not zero
+pub record Lettered (t : List ℕ) : Type 0 where
+  pub bytes : AllBytes t
+  pub first : 0 < getD t 0 0
+
+reverse-bytes : (t : List ℕ) → AllBytes t → AllBytes (reverse t)
+reverse-bytes [] h = none-bytes
+reverse-bytes (b ∷ t) h = rw (reverse-cons b t) (append-bytes (reverse t) (b ∷ []) (reverse-bytes t (λ k. h (suc k))) (cons-bytes b [] (h 0) none-bytes))
+
+reverse-topped : (t : List ℕ) → 0 < getD t 0 0 → topped (reverse t) ≡ true
+reverse-topped [] h = absurd (omega arith)
+reverse-topped (b ∷ t) h = rw (reverse-cons b t) (topped-end (reverse t) b h)
+
+packed-one : (t w : List ℕ) → Lettered t → Lettered w → packed w ≡ packed t → w ≡ t
+unfolding packed
+packed-one t w p q e =
+    sym (reverse-reverse w)
+    ∙ (ap reverse (word-one (reverse w) (reverse t) (reverse-bytes w (q .bytes)) (reverse-bytes t (p .bytes)) (reverse-topped w (q .first)) (reverse-topped t (p .first)) e)
+    ∙ reverse-reverse t)
+
+-- So two words have the same letters where they have the same number.
+pub packed-same : (t w : List ℕ) → Lettered t → Lettered w → eqb (packed w) (packed t) ≡ same t w
+packed-same t w p q = go (same t w) refl
+  where
+    go : (b : Bool) → same t w ≡ b → eqb (packed w) (packed t) ≡ b
+    go true e = eq-eqb (packed w) (packed t) (ap packed (sym (same-equal t w e)))
+    go false e = ne-eqb (packed w) (packed t) (λ h. false≢true (sym e ∙ (rw (packed-one t w p q h) (same-itself t))))
+
+-- each number is a byte
+small : List ℕ → Bool
+small [] = true
+small (b ∷ t) = ltb b 256 && small t
+
+small-bytes : (t : List ℕ) → small t ≡ true → AllBytes t
+unfolding small
+small-bytes [] h k = none-bytes k
+small-bytes (b ∷ t) h zero = ltb-true b 256 (and-eq-true-iff (ltb b 256) (small t) .0 h .0)
+small-bytes (b ∷ t) h (suc k) = small-bytes t (and-eq-true-iff (ltb b 256) (small t) .0 h .1) k
+
+-- every row's word is of bytes, and its first letter is not zero
+lettered : List Row → Bool
+lettered [] = true
+lettered (r ∷ rs) = (ltb 0 (getD (r .word) 0 0) && small (r .word)) && lettered rs
+
+forms-lettered : lettered forms ≡ true
+unfolding computing-form lettered small
+forms-lettered = refl
+
+letters-of : (r : Row) (rs : List Row) → lettered (r ∷ rs) ≡ true → Lettered (r .word)
+unfolding lettered
+letters-of r rs h =
+    let here = and-eq-true-iff (ltb 0 (getD (r .word) 0 0)) (small (r .word)) .0 (and-eq-true-iff (ltb 0 (getD (r .word) 0 0) && small (r .word)) (lettered rs) .0 h .0) in
+    record { bytes = small-bytes (r .word) (here .1); first = ltb-true 0 (getD (r .word) 0 0) (here .0) }
+
+letters-later : (r : Row) (rs : List Row) → lettered (r ∷ rs) ≡ true → lettered rs ≡ true
+unfolding lettered
+letters-later r rs h = and-eq-true-iff (ltb 0 (getD (r .word) 0 0) && small (r .word)) (lettered rs) .0 h .1
+
+-- A text is a word where its number has a row.
+number-word : (rs : List Row) (t : List ℕ) → lettered rs ≡ true → Lettered t → someRow (rowsWith (packed t) rs) ≡ isWord rs t
+unfolding rowsWith those isWord
+number-word [] t h p = refl
+number-word (r ∷ rs) t h p = go (same t (r .word)) (packed-same t (r .word) p (letters-of r rs h)) (number-word rs t (letters-later r rs h) p)
+  where
+    go : (b : Bool) → eqb (packed (r .word)) (packed t) ≡ b → someRow (rowsWith (packed t) rs) ≡ isWord rs t → someRow (rowsWith (packed t) (r ∷ rs)) ≡ (b || isWord rs t)
+    go true e i = rw e
+    go false e i = rw e i
+
+pub word-number : (t : List ℕ) → Lettered t → someRow (rowsWith (packed t) forms) ≡ isWord forms t
+word-number t p = number-word forms t forms-lettered p
+
+-- No text that begins with a zero byte, or is empty, is a word.
+no-zero : (rs : List Row) (t : List ℕ) → lettered rs ≡ true → getD t 0 0 ≡ 0 → isWord rs t ≡ false
+unfolding isWord
+no-zero [] t h z = refl
+no-zero (r ∷ rs) t h z = go (same t (r .word)) refl (no-zero rs t (letters-later r rs h) z)
+  where
+    go : (b : Bool) → same t (r .word) ≡ b → isWord rs t ≡ false → (same t (r .word) || isWord rs t) ≡ false
+    go true e i =
+        let p : 0 < getD (r .word) 0 0 = letters-of r rs h .first in
+        let q : getD (r .word) 0 0 ≡ 0 = (rw (same-equal t (r .word) e) at z) in
+        absurd (omega arith)
+    go false e i = rw (e, i)
+
+-- The number of one letter more.
+pub packed-more : (s : List ℕ) (n : ℕ) → n < length s → packed (take (suc n) s) ≡ 256 * packed (take n s) + getD s n 0
+unfolding packed word
+packed-more s n h = rw (take-suc s n 0 h, reverse-append (take n s) (getD s n 0 ∷ [])) (omega arith)
+
+-- A line that begins with a zero byte, or is empty, begins with no word.
+pub longest-none : (n : ℕ) (s : List ℕ) → getD s 0 0 ≡ 0 → longest n s ≡ []
+unfolding longest
+longest-none zero s z = refl
+longest-none (suc n) s z = rw (no-zero forms (take (suc n) s) forms-lettered (front n s z), longest-none n s z)
+  where
+    front : (n : ℕ) (s : List ℕ) → getD s 0 0 ≡ 0 → getD (take (suc n) s) 0 0 ≡ 0
+    front n [] z = refl
+    front n (b ∷ s) z = z
+
+-- Letters past the end of a line make no longer word.
+longest-past : (n : ℕ) (s : List ℕ) → length s ≤ n → longest (suc n) s ≡ longest n s
+unfolding longest
+longest-past zero [] h = rw (no-zero forms [] forms-lettered refl)
+longest-past zero (b ∷ s) h = absurd (omega arith)
+longest-past (suc n) s h = rw (take-all (suc (suc n)) s (omega arith), take-all (suc n) s h) (go (isWord forms s))
+  where
+    go : (b : Bool) → cond b s (cond b s (longest n s)) ≡ cond b s (longest n s)
+    go true = refl
+    go false = refl
+
+pub longest-whole : (k : ℕ) (s : List ℕ) → longest (length s + k) s ≡ longest (length s) s
+longest-whole zero s = rw (add-zero (length s))
+longest-whole (suc k) s = rw (add-suc (length s) k) (longest-past (length s + k) s (omega arith) ∙ longest-whole k s)
+
+-- What the number of letters looked at says of them.
+pub count-within : (t : List ℕ) (n : ℕ) → n < letterCount t → (n < 8) × (n < length t) × (0 < getD t 0 0)
+count-within t n h = go (eqb (getD t 0 0) 0) refl
+  where
+    go : (b : Bool) → eqb (getD t 0 0) 0 ≡ b → (n < 8) × (n < length t) × (0 < getD t 0 0)
+    go true e = absurd (not-suc-le-zero (rw e at h))
+    go false e =
+        let m : n < min 8 (length t) = (rw e at h) in
+        let z : getD t 0 0 ≡ 0 → ⊥ = eqb-false (getD t 0 0) 0 e in
+        (omega arith, omega arith, omega arith)
+
+-- They are enough to find the longest word.
+pub count-enough : (t : List ℕ) → longest (letterCount t) t ≡ longest 8 t
+count-enough t = go (eqb (getD t 0 0) 0) refl (leb (length t) 8) refl
+  where
+    go : (b : Bool) → eqb (getD t 0 0) 0 ≡ b → (c : Bool) → leb (length t) 8 ≡ c → longest (letterCount t) t ≡ longest 8 t
+    go true e c f = rw (e, longest-none 0 t (eqb-true (getD t 0 0) 0 e), longest-none 8 t (eqb-true (getD t 0 0) 0 e))
+    go false e true f =
+        let h : length t ≤ 8 = leb-true (length t) 8 f in
+        let m : min 8 (length t) ≡ length t = omega arith in
+        let w : length t + (8 - length t) ≡ 8 = omega arith in
+        rw (e, m) (sym (longest-whole (8 - length t) t) ∙ (rw w))
+    go false e false f =
+        let h : 8 < length t = leb-false (length t) 8 f in
+        let m : min 8 (length t) ≡ 8 = omega arith in
+        rw (e, m)
+
+-- Where no word stands, no letters are marked.
+pub marked-none : (at : ℕ) → _≡_ {A = Word} (record { letters = 0; end = at }) (marked at [])
+unfolding packed word
+marked-none at = rw (add-zero at)
+
+-- One letter more: the letters so far are the longest word, or it stays what it was.
+pub longer-word : (t : List ℕ) (at n k : ℕ) (w : Word) → n < letterCount t → AllBytes t → k ≡ packed (take (suc n) t) → w ≡ marked at (longest n t)
+    → cond (someRow (rowsWith k forms)) (record { letters = k; end = at + suc n }) w ≡ marked at (longest (suc n) t)
+unfolding longest part
+longer-word t at n k w h f e p =
+    let i = count-within t n h in
+    let l : length (take (suc n) t) ≡ suc n = length-take-le (suc n) t (omega arith) in
+    let q : Lettered (take (suc n) t) = record { bytes = part-bytes t 0 (suc n) f; first = rw (getD-take (suc n) t 0 0 (omega arith)) (i .2) } in
+    rw (e, word-number (take (suc n) t) q, p) (go (isWord forms (take (suc n) t)) l)
+  where
+    go : (b : Bool) → length (take (suc n) t) ≡ suc n
+        → cond b (record { letters = packed (take (suc n) t); end = at + suc n }) (marked at (longest n t)) ≡ marked at (cond b (take (suc n) t) (longest n t))
+    go true l = rw l
+    go false l = refl
+
+-- every row begins with a field that some line may have, or has none
+allThere : List Row → Bool
+allThere [] = true
+allThere (r ∷ rs) = isThere (shapeOf (r .fields) .first) && allThere rs
+
+there-with : (rs : List Row) (n : ℕ) → allThere rs ≡ true → isThere (shapeOf (fieldsBy (rowsWith n rs)) .first) ≡ someRow (rowsWith n rs)
+unfolding rowsWith those allThere
+there-with [] n h = refl
+there-with (r ∷ rs) n h =
+    let both = and-eq-true-iff (isThere (shapeOf (r .fields) .first)) (allThere rs) .0 h in
+    go (eqb (packed (r .word)) n) refl (both .0) (there-with rs n (both .1))
+  where
+    go : (t : Bool) → eqb (packed (r .word)) n ≡ t → isThere (shapeOf (r .fields) .first) ≡ true
+        → isThere (shapeOf (fieldsBy (rowsWith n rs)) .first) ≡ someRow (rowsWith n rs)
+        → isThere (shapeOf (fieldsBy (rowsWith n (r ∷ rs))) .first) ≡ someRow (rowsWith n (r ∷ rs))
+    go true e h i = rw (e, h)
+    go false e h i = rw e i
+
+forms-there : allThere forms ≡ true
+unfolding computing-form allThere
+forms-there = refl
+
+-- Letters are a word where what follows them is there in some line.
+pub shape-there : (n : ℕ) → isThere (shapeAfter false n .first) ≡ someRow (rowsWith n forms)
+unfolding shapeAfter rowsBy
+shape-there n = there-with forms n forms-there
