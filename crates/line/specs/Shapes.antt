@@ -1,7 +1,7 @@
 -- Document 01, "Lines": the fields that a line is made of, and the shapes that they make. A field is read at a place of the
 -- line and gives the place after it: "The line in hand and the place reached travel together".
 use Prim.Native.Char.{code}
-use Prim.Native.Nat.{ℕ, _+_}
+use Prim.Native.Nat.{ℕ, zero, suc, _+_}
 use mathlib.Core.List.{List, [], _∷_}
 use mathlib.Core.Bool.{Bool, true, false, _&&_, cond}
 use lib.ListN.{drop, getD}
@@ -164,9 +164,15 @@ unfoldable pub readFields : List Field → Fields → List ℕ → ℕ → Got
 readFields [] f s at = Here f at
 readFields (k ∷ ks) f s at = onward (readField k f s at) (λ g to. readFields ks g s to)
 
--- the three fields of a shape, one after the other, from a place on
-unfoldable pub readShape : Shape → List ℕ → ℕ → Got
-readShape k s at =
-    onward
-    (onward (readField (k .first) noFields s at) (λ f to. readField (k .second) f s to))
-    (λ f to. readField (k .third) f s to)
+-- the kind of field number i of a shape
+abbrev pub kindAt : Shape → ℕ → Field
+kindAt k i = cond (eqb i 0) (k .first) (cond (eqb i 1) (k .second) (k .third))
+
+-- the first n fields of a shape, one after the other, from a place on
+unfoldable pub readFirst : ℕ → Shape → List ℕ → ℕ → Got
+readFirst zero k s at = Here noFields at
+readFirst (suc n) k s at = onward (readFirst n k s at) (λ f to. readField (kindAt k n) f s to)
+
+-- the three fields of a shape
+abbrev pub readShape : Shape → List ℕ → ℕ → Got
+readShape k s at = readFirst 3 k s at

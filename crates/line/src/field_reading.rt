@@ -18,7 +18,7 @@ ghost use lib.ListN.{length};
 ghost use Rattle.digits.specs.Text.{isHex, hexValue, digitValue};
 ghost use Rattle.line.specs.Shapes.{noFields, withChannel, withWritten, withFirst, withSecond, byteAt, fourOf};
 ghost use Rattle.line.specs.Shapes.{readChannel, readNumber, readSigned, readDigit, readQuestion, readLetters};
-ghost use Rattle.line.specs.Shapes.{readFour, readZeroThree, readField, onward, readShape};
+ghost use Rattle.line.specs.Shapes.{readFour, readZeroThree, readField, kindAt, onward, readShape};
 
 // The byte at a place, 0 where the line has ended.
 pub fn byte_or_zero(s: &[u8], at: usize) -> u8
@@ -255,14 +255,29 @@ fn no_fields() -> Fields
     }
 }
 
-// The three fields of a shape, one after the other.
-pub fn fields_at(s: &[u8], at: usize, shape: Shape) -> Got
-    ensures { λ r. ⌜ r ≡ readShape shape (now (s .entry)) at ⌝ }
+// The kind of field number i of a shape.
+fn kind_at(shape: Shape, i: usize) -> Field
+    ensures { λ r. ⌜ r ≡ kindAt shape i ⌝ }
 {
     let first = shape.first;
     let second = shape.second;
     let third = shape.third;
-    let one = field_at(s, at, first, no_fields());
-    let two = onward_at(s, one, second);
-    onward_at(s, two, third)
+    match i {
+        0 => first,
+        1 => second,
+        _ => third,
+    }
+}
+
+// The three fields of a shape, one after the other.
+pub fn fields_at(s: &[u8], at: usize, shape: Shape) -> Got
+    ensures { λ r. ⌜ r ≡ readShape shape (now (s .entry)) at ⌝ }
+{
+    let mut got = Got::Here(no_fields(), at);
+    let mut n: usize = 0;
+    while n < 3 {
+        got = onward_at(s, got, kind_at(shape, n));
+        n += 1;
+    }
+    got
 }

@@ -15,7 +15,7 @@ use Rattle.line.specs.declared.Got.{Got}
 use Rattle.line.specs.declared.Got.the-variants.{Here, Absent}
 use Rattle.line.specs.declared.Parsed.{Parsed}
 use Rattle.line.specs.declared.Parsed.the-variants.{Is, Nothing}
-use Rattle.line.specs.Shapes.{noFields, readField, readFields, onward, readShape}
+use Rattle.line.specs.Shapes.{noFields, readField, readFields, onward, readFirst, readShape}
 use Rattle.line.specs.Forms.{Row, forms, those, complete, fieldsAsRow, asRow, firstOf, firstForm, orderOf}
 use Rattle.line.proofs.StencilLaws.{fits, apart, ends, letters, word-fits}
 use Rattle.line.proofs.FormLaws.{outline, apart-nothing}
@@ -121,7 +121,7 @@ within-line (r ∷ rs) s n h = go (leb (length (r .word)) n) refl (within-line r
 
 -- Fields read by three are the fields read one after the other.
 shape-fields : (ks : List Field) (s : List ℕ) (at : ℕ) → length ks ≤ 3 → readShape (shapeOf ks) s at ≡ readFields ks noFields s at
-unfolding readShape readFields
+unfolding readFirst readFields
 shape-fields [] s at h = refl
 shape-fields (a ∷ []) s at h = go (readField a noFields s at)
   where
@@ -164,7 +164,7 @@ row-case r rs w s m e h = rw (e, h, shape-fields (r .fields) s (length w) m) (go
 
 -- What no line has makes no order.
 never : (s : List ℕ) (at : ℕ) → caseBy [] s at ≡ Nothing
-unfolding readShape
+unfolding readFirst
 never s at = refl
 
 -- what the code answers for a word at the front of a line
