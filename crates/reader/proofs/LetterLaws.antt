@@ -18,7 +18,7 @@ use Rattle.line.specs.Forms.{Row, forms, those}
 use Rattle.form.specs.Table.{packed, rowsWith, isWord, rowsBy, shapeOf, fieldsBy, shapeAfter}
 use Rattle.form.specs.Computing.{computing-form}
 use Rattle.form.specs.declared.Word.{Word}
-use Rattle.reader.specs.Finding.{isThere, someRow, longest, marked, letterCount}
+use Rattle.reader.specs.Finding.{isThere, someRow, longest, isLetter, lettersAtFront, marked, letterCount}
 
 -- Two texts that are the same are equal, and a text is the same as itself.
 pub same-equal : (s t : List ℕ) → same s t ≡ true → s ≡ t
@@ -159,16 +159,6 @@ pub packed-more : (s : List ℕ) (n : ℕ) → n < length s → packed (take (su
 unfolding packed word
 packed-more s n h = rw (take-suc s n 0 h, reverse-append (take n s) (getD s n 0 ∷ [])) (omega arith)
 
--- A line that begins with a zero byte, or is empty, begins with no word.
-pub longest-none : (n : ℕ) (s : List ℕ) → getD s 0 0 ≡ 0 → longest n s ≡ []
-unfolding longest
-longest-none zero s z = refl
-longest-none (suc n) s z = rw (no-zero forms (take (suc n) s) forms-lettered (front n s z), longest-none n s z)
-  where
-    front : (n : ℕ) (s : List ℕ) → getD s 0 0 ≡ 0 → getD (take (suc n) s) 0 0 ≡ 0
-    front n [] z = refl
-    front n (b ∷ s) z = z
-
 -- Letters past the end of a line make no longer word.
 longest-past : (n : ℕ) (s : List ℕ) → length s ≤ n → longest (suc n) s ≡ longest n s
 unfolding longest
@@ -184,32 +174,126 @@ pub longest-whole : (k : ℕ) (s : List ℕ) → longest (length s + k) s ≡ lo
 longest-whole zero s = rw (add-zero (length s))
 longest-whole (suc k) s = rw (add-suc (length s) k) (longest-past (length s + k) s (omega arith) ∙ longest-whole k s)
 
+-- every letter of a text, and of every row's word, is one
+onlyLetters : List ℕ → Bool
+onlyLetters [] = true
+onlyLetters (b ∷ t) = isLetter b && onlyLetters t
+
+spelled : List Row → Bool
+spelled [] = true
+spelled (r ∷ rs) = onlyLetters (r .word) && spelled rs
+
+forms-spelled : spelled forms ≡ true
+unfolding computing-form spelled onlyLetters
+forms-spelled = refl
+
+-- A text of letters is no longer than the letters at the front of the line that begins with it.
+front-letters : (n : ℕ) (s : List ℕ) → onlyLetters (take n s) ≡ true → n ≤ length s → n ≤ lettersAtFront s
+unfolding onlyLetters lettersAtFront
+front-letters zero s h l = omega arith
+front-letters (suc n) [] h l = absurd (omega arith)
+front-letters (suc n) (b ∷ s) h l =
+    let both = and-eq-true-iff (isLetter b) (onlyLetters (take n s)) .0 h in
+    let i : n ≤ lettersAtFront s = front-letters n s (both .1) (omega arith) in
+    rw (both .0) (omega arith)
+
+word-spelled : (rs : List Row) (t : List ℕ) → spelled rs ≡ true → isWord rs t ≡ true → onlyLetters t ≡ true
+unfolding spelled isWord
+word-spelled [] t h e = absurd (false≢true e)
+word-spelled (r ∷ rs) t h e =
+    let both = and-eq-true-iff (onlyLetters (r .word)) (spelled rs) .0 h in
+    go (same t (r .word)) refl e (both .0) (word-spelled rs t (both .1))
+  where
+    go : (b : Bool) → same t (r .word) ≡ b → (b || isWord rs t) ≡ true → onlyLetters (r .word) ≡ true → (isWord rs t ≡ true → onlyLetters t ≡ true) → onlyLetters t ≡ true
+    go true p e o later = rw (same-equal t (r .word) p) o
+    go false p e o later = later e
+
+-- Where the letters at the front of a line have ended, no longer text is a word.
+longest-beyond : (n : ℕ) (s : List ℕ) → lettersAtFront s ≤ n → longest (suc n) s ≡ longest n s
+unfolding longest
+longest-beyond n s h = go (leb (length s) n) refl (isWord forms (take (suc n) s)) refl
+  where
+    go : (a : Bool) → leb (length s) n ≡ a → (b : Bool) → isWord forms (take (suc n) s) ≡ b → longest (suc n) s ≡ longest n s
+    go true p b q = longest-past n s (leb-true (length s) n p)
+    go false p true q =
+        let l : n < length s = leb-false (length s) n p in
+        let i : suc n ≤ lettersAtFront s = front-letters (suc n) s (word-spelled forms (take (suc n) s) forms-spelled q) (omega arith) in
+        absurd (omega arith)
+    go false p false q = rw q
+
+longest-letters : (k : ℕ) (s : List ℕ) → longest (lettersAtFront s + k) s ≡ longest (lettersAtFront s) s
+longest-letters zero s = rw (add-zero (lettersAtFront s))
+longest-letters (suc k) s = rw (add-suc (lettersAtFront s) k) (longest-beyond (lettersAtFront s + k) s (omega arith) ∙ longest-letters k s)
+
+-- The letters that are looked at are enough to find the longest word.
+pub count-enough : (t : List ℕ) → longest (letterCount t) t ≡ longest 8 t
+count-enough t = go (leb (lettersAtFront t) 8) refl
+  where
+    n : ℕ
+    n = lettersAtFront t
+
+    go : (c : Bool) → leb n 8 ≡ c → longest (letterCount t) t ≡ longest 8 t
+    go true f =
+        let h : n ≤ 8 = leb-true n 8 f in
+        let m : min 8 n ≡ n = omega arith in
+        let w : n + (8 - n) ≡ 8 = omega arith in
+        rw m (sym (longest-letters (8 - n) t) ∙ (rw w))
+    go false f =
+        let h : 8 < n = leb-false n 8 f in
+        let m : min 8 n ≡ 8 = omega arith in
+        rw m
+
+-- Letters stand within the line, and the first of them is not zero.
+pub letters-within : (s : List ℕ) → lettersAtFront s ≤ length s
+unfolding lettersAtFront
+letters-within [] = omega arith
+letters-within (b ∷ s) = go (isLetter b) (letters-within s)
+  where
+    go : (t : Bool) → lettersAtFront s ≤ length s → cond t (suc (lettersAtFront s)) 0 ≤ suc (length s)
+    go true h = omega arith
+    go false h = omega arith
+
+letter-above : (b : ℕ) → isLetter b ≡ true → 0 < b
+letter-above zero e = absurd (false≢true e)
+letter-above (suc b) e = omega arith
+
+letters-first : (s : List ℕ) → 0 < lettersAtFront s → 0 < getD s 0 0
+unfolding lettersAtFront
+letters-first [] h = h
+letters-first (b ∷ s) h = go (isLetter b) refl h
+  where
+    go : (t : Bool) → isLetter b ≡ t → 0 < cond t (suc (lettersAtFront s)) 0 → 0 < b
+    go true e h = letter-above b e
+    go false e h = absurd (not-suc-le-zero h)
+
 -- What the number of letters looked at says of them.
 pub count-within : (t : List ℕ) (n : ℕ) → n < letterCount t → (n < 8) × (n < length t) × (0 < getD t 0 0)
-count-within t n h = go (eqb (getD t 0 0) 0) refl
-  where
-    go : (b : Bool) → eqb (getD t 0 0) 0 ≡ b → (n < 8) × (n < length t) × (0 < getD t 0 0)
-    go true e = absurd (not-suc-le-zero (rw e at h))
-    go false e =
-        let m : n < min 8 (length t) = (rw e at h) in
-        let z : getD t 0 0 ≡ 0 → ⊥ = eqb-false (getD t 0 0) 0 e in
-        (omega arith, omega arith, omega arith)
+count-within t n h =
+    let w : lettersAtFront t ≤ length t = letters-within t in
+    (omega arith, omega arith, letters-first t (omega arith))
 
--- They are enough to find the longest word.
-pub count-enough : (t : List ℕ) → longest (letterCount t) t ≡ longest 8 t
-count-enough t = go (eqb (getD t 0 0) 0) refl (leb (length t) 8) refl
+-- One letter more, or none.
+pub letters-more : (s : List ℕ) (n : ℕ) → n ≤ lettersAtFront s → isLetter (getD s n 0) ≡ true → suc n ≤ lettersAtFront s
+unfolding lettersAtFront
+letters-more [] n h e = absurd (false≢true e)
+letters-more (b ∷ s) zero h e = rw e (omega arith)
+letters-more (b ∷ s) (suc n) h e = go (isLetter b) refl h (letters-more s n)
   where
-    go : (b : Bool) → eqb (getD t 0 0) 0 ≡ b → (c : Bool) → leb (length t) 8 ≡ c → longest (letterCount t) t ≡ longest 8 t
-    go true e c f = rw (e, longest-none 0 t (eqb-true (getD t 0 0) 0 e), longest-none 8 t (eqb-true (getD t 0 0) 0 e))
-    go false e true f =
-        let h : length t ≤ 8 = leb-true (length t) 8 f in
-        let m : min 8 (length t) ≡ length t = omega arith in
-        let w : length t + (8 - length t) ≡ 8 = omega arith in
-        rw (e, m) (sym (longest-whole (8 - length t) t) ∙ (rw w))
-    go false e false f =
-        let h : 8 < length t = leb-false (length t) 8 f in
-        let m : min 8 (length t) ≡ 8 = omega arith in
-        rw (e, m)
+    go : (t : Bool) → isLetter b ≡ t → suc n ≤ cond t (suc (lettersAtFront s)) 0 → (n ≤ lettersAtFront s → isLetter (getD s n 0) ≡ true → suc n ≤ lettersAtFront s)
+        → suc (suc n) ≤ cond t (suc (lettersAtFront s)) 0
+    go true p h later = let i : suc n ≤ lettersAtFront s = later (omega arith) e in omega arith
+    go false p h later = absurd (not-suc-le-zero h)
+
+pub letters-end : (s : List ℕ) (n : ℕ) → n ≤ lettersAtFront s → isLetter (getD s n 0) ≡ false → lettersAtFront s ≡ n
+unfolding lettersAtFront
+letters-end [] n h e = omega arith
+letters-end (b ∷ s) zero h e = rw e
+letters-end (b ∷ s) (suc n) h e = go (isLetter b) refl h (letters-end s n)
+  where
+    go : (t : Bool) → isLetter b ≡ t → suc n ≤ cond t (suc (lettersAtFront s)) 0 → (n ≤ lettersAtFront s → isLetter (getD s n 0) ≡ false → lettersAtFront s ≡ n)
+        → cond t (suc (lettersAtFront s)) 0 ≡ suc n
+    go true p h later = ap suc (later (omega arith) e)
+    go false p h later = absurd (not-suc-le-zero h)
 
 -- Where no word stands, no letters are marked.
 pub marked-none : (at : ℕ) → _≡_ {A = Word} (record { letters = 0; end = at }) (marked at [])

@@ -1,9 +1,10 @@
 -- How the row of a line is found: by the longest word that the line begins with. That this finds each form of document 01,
 -- and nothing else, is proved in proofs/FindingLaws.antt: a reader who believes `orderOf` need not believe this file.
+use Prim.Native.Char.{code}
 use Prim.Native.Nat.{ℕ, zero, suc, _+_, min}
 use mathlib.Core.List.{List, [], _∷_}
-use mathlib.Core.Bool.{Bool, true, false, cond}
-use lib.ListN.{length, take, drop, getD}
+use mathlib.Core.Bool.{Bool, true, false, _&&_, _||_, cond}
+use lib.ListN.{length, take, drop}
 use lib.Dec.{leb, eqb}
 use Rattle.line.specs.declared.Fields.{Fields}
 use Rattle.line.specs.declared.Field.{Field}
@@ -41,9 +42,18 @@ unfoldable pub longest : ℕ → List ℕ → List ℕ
 longest zero s = []
 longest (suc n) s = cond (isWord forms (take (suc n) s)) (take (suc n) s) (longest n s)
 
--- how many letters of a line are looked at: eight at most, and none of a text that begins with a zero byte, as no word does
+-- a byte that a word may have: a capital, or one of the few beside them
+abbrev pub isLetter : ℕ → Bool
+isLetter b = (leb (code "A") b && leb b (code "_")) || (eqb b (code "?") || eqb b (code " "))
+
+-- how many letters stand at the front of a line
+unfoldable pub lettersAtFront : List ℕ → ℕ
+lettersAtFront [] = 0
+lettersAtFront (b ∷ s) = cond (isLetter b) (suc (lettersAtFront s)) 0
+
+-- how many of them are looked at, for no word has more than eight
 abbrev pub letterCount : List ℕ → ℕ
-letterCount s = cond (eqb (getD s 0 0) 0) 0 (min 8 (length s))
+letterCount s = min 8 (lettersAtFront s)
 
 -- a word and the place after it
 abbrev pub marked : ℕ → List ℕ → Word

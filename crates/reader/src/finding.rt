@@ -5,11 +5,12 @@ use form::shapes::shape_after;
 use line::Field;
 ghost use mathlib.Core.Path.{_≡_};
 ghost use mathlib.Core.Bool.{cond};
-ghost use Prim.Native.Nat.{_-_, _≤_, min};
+ghost use Prim.Native.Nat.{_-_, _≤_};
 ghost use lib.ListN.{length, drop};
+ghost use Rattle.line.specs.Shapes.{byteAt};
 ghost use Rattle.line.specs.Forms.{forms};
 ghost use Rattle.form.specs.Table.{rowsWith};
-ghost use Rattle.reader.specs.Finding.{someRow, isThere, letterCount, wordAt};
+ghost use Rattle.reader.specs.Finding.{someRow, isThere, isLetter, letterCount, wordAt};
 
 fn is_there(field: Field) -> bool
     ensures { λ r. ⌜ r ≡ isThere field ⌝ }
@@ -28,25 +29,36 @@ fn is_word(letters: u64) -> bool
     is_there(first)
 }
 
-fn up_to_eight(n: usize) -> usize
-    ensures { λ r. ⌜ r ≡ min 8 n ⌝ }
-{
-    if n < 8 { n } else { 8 }
-}
-
-// How many letters are looked at.
-fn letter_count(s: &[u8], at: usize) -> usize
-    ensures { λ r. ⌜ (r ≡ letterCount (drop at (now (s .entry)))) × (r ≤ 8) × (r ≤ length (now (s .entry)) - at) ⌝ }
+// The byte n places after another, 0 where the line has ended.
+fn letter_at(s: &[u8], at: usize, n: usize) -> u8
+    ensures { λ r. ⌜ r ≡ byteAt (drop at (now (s .entry))) n ⌝ }
 {
     if at < s.len() {
-        if s[at] == 0 {
-            0
-        } else {
-            up_to_eight(s.len() - at)
-        }
+        if n < s.len() - at { s[at + n] } else { 0 }
     } else {
         0
     }
+}
+
+fn is_letter(b: u8) -> bool
+    ensures { λ r. ⌜ r ≡ isLetter b ⌝ }
+{
+    ((b'A' <= b) & (b <= b'_')) | ((b == b'?') | (b == b' '))
+}
+
+// How many letters are looked at: those that stand from `at` on, eight at most.
+fn letter_count(s: &[u8], at: usize) -> usize
+    ensures { λ r. ⌜ (r ≡ letterCount (drop at (now (s .entry)))) × (r ≤ 8) × (r ≤ length (now (s .entry)) - at) ⌝ }
+{
+    let mut n: usize = 0;
+    while n < 8 {
+        if is_letter(letter_at(s, at, n)) {
+            n += 1;
+        } else {
+            return n;
+        }
+    }
+    n
 }
 
 // The word so far, or the letters up to a place if they are a longer one.
