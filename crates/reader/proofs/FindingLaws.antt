@@ -19,6 +19,7 @@ use Rattle.line.specs.Shapes.{noFields, readField, readFields, onward, readFirs
 use Rattle.line.specs.Forms.{Row, forms, those, complete, fieldsAsRow, asRow, firstOf, firstForm, orderOf}
 use Rattle.line.proofs.StencilLaws.{fits, apart, ends, letters, word-fits}
 use Rattle.line.proofs.FormLaws.{outline, apart-nothing}
+use Rattle.form.specs.declared.Word.{Word}
 use Rattle.form.specs.Table.{packed, rowsWith, isWord, repeated, rowsBy, shapeOf, fieldsBy, orderBy, shapeAfter, orderWith}
 use Rattle.form.specs.Computing.{computing-form}
 use Rattle.reader.specs.Finding.{longest, marked, wordAt, whole, caseAt, orderAt}
@@ -230,6 +231,11 @@ row-answer r s k h =
     ∙ (rw (k .rows) (rows-answer (rowsOf r) (r .word) s (k .few) (k .fields) (k .words) h)
     ∙ ap (λ (rs : List Row). firstOf (caseBy (rowsOf r) s n) (caseBy rs s n)) (sym (k .second)))
 
+no-case : (second : Bool) (s : List ℕ) (at : ℕ) → caseAt second 0 s at ≡ Nothing
+unfolding computing-form caseAt
+no-case false s at = refl
+no-case true s at = refl
+
 -- Where no word stands there is no order.
 none-answer : (s : List ℕ) → firstForm (below 0 forms) s ≡ answer s []
 unfolding computing-form caseAt
@@ -273,6 +279,15 @@ eight s = go (leb (length s) 8) refl
         ∙ (longest-answer (length s) s (omega arith)
         ∙ ap (answer s) (sym (longest-whole (8 - length s) s) ∙ (rw k)))
     go false e = rw (← forms-below) (longest-answer 8 s (omega (arith, leb-false (length s) 8 e)))
+
+-- Without a word there is no order, whatever the place.
+pub no-order : (s : List ℕ) (at : ℕ) (w : Word) → w .letters ≡ 0 → orderAt s at w ≡ Nothing
+unfolding orderAt
+no-order s at w e = rw (e, no-case false s at, no-case true s at) (either (leb (length s) 80))
+  where
+    either : (t : Bool) → cond t Nothing Nothing ≡ Nothing
+    either true = refl
+    either false = refl
 
 -- A line is the order that its longest word makes with the fields after it, for every list of bytes, of every length.
 pub order-found : (s : List ℕ) → orderAt s (wordAt s 0 .end) (wordAt s 0) ≡ orderOf s

@@ -25,14 +25,18 @@ fn case_at(s: &[u8], at: usize, second: bool, word: u64) -> Parsed
     }
 }
 
-// By the first form, or else by the second. A line of more than 80 bytes has no form.
+// By the first form, or else by the second. Without a word, and in more than 80 bytes, there is no form.
 pub fn order_at(s: &[u8], at: usize, word: Word) -> Parsed
     ensures { λ r. ⌜ r ≡ orderAt (now (s .entry)) at word ⌝ }
 {
+    let letters = word.letters;
+    if letters == 0 {
+        return Parsed::Nothing;
+    }
     if s.len() <= 80 {
-        match case_at(s, at, false, word.letters) {
+        match case_at(s, at, false, letters) {
             Parsed::Is(order) => Parsed::Is(order),
-            Parsed::Nothing => case_at(s, at, true, word.letters),
+            Parsed::Nothing => case_at(s, at, true, letters),
         }
     } else {
         Parsed::Nothing
