@@ -1,3 +1,6 @@
+use denote.Ref.{now}
+use mathlib.Core.Path.{_≡_}
+use lib.ListN.{length}
 use borrow.Author.Tests.{eq-eqb, ne-eqb}
 use Rattle.reader.specs.Finding.{caseAt}
 use borrow.Author.Needs.{needs}
@@ -23,12 +26,13 @@ returns : tie.Need-returns
 unfolding caseAt
 returns c =
     let l = c .before .before .before .before .before in
+    let reached : _ ≡ length (now (l .before .before .before .args .s)) = c .before .if1 .taken in
     rw (
       ← l .before .shape-after .ensures,
       ← l .fields-at .ensures,
       c .before .before .before .f .given .1,
       c .order-with .ensures,
-      eq-eqb _ _ (c .before .if1 .taken),
+      eq-eqb _ _ reached,
     )
 
 returns-2 : tie.Need-returns-2

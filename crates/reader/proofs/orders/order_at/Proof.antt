@@ -1,5 +1,7 @@
 use denote.Ref.{now}
 use mathlib.Core.Path.{sym}
+use Prim.Native.Nat.{_≤_}
+use lib.ListN.{length}
 use borrow.Author.Tests.{le-leb, lt-leb}
 use Rattle.reader.specs.Finding.{orderAt}
 use Rattle.reader.proofs.FindingLaws.{no-order}
@@ -28,7 +30,8 @@ returns-2 : tie.Need-returns-2
 unfolding orderAt
 returns-2 c =
     let l = c .before .before .before in
-    rw (le-leb _ _ (l .before .if2 .taken), ← l .case-at .ensures, c .before .order .given .1)
+    let short : length (now (l .before .before .before .before .args .s)) ≤ 80 = l .before .if2 .taken in
+    rw (le-leb _ _ short, ← l .case-at .ensures, c .before .order .given .1)
 
 returns-3 : tie.Need-returns-3
 unfolding orderAt
