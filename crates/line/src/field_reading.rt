@@ -21,7 +21,7 @@ ghost use Rattle.line.specs.Shapes.{readChannel, readNumber, readSigned,
 ghost use Rattle.line.specs.Shapes.{readFour, readZeroThree, readField, kindAt, onward, readShape};
 
 // The byte at a place, 0 where the line has ended.
-pub fn byte_or_zero(s: &[u8], at: usize) -> u8
+fn byte_or_zero(s: &[u8], at: usize) -> u8
     ensures { λ r. ⌜ r ≡ byteAt (now (s .entry)) at ⌝ }
 {
     if at < s.len() { s[at] } else { 0 }
@@ -92,7 +92,7 @@ fn with_second(f: Fields, q: Four) -> Fields
 }
 
 // x: one of 0-9, A-F.
-pub fn channel_at(s: &[u8], at: usize, f: Fields) -> Got
+fn channel_at(s: &[u8], at: usize, f: Fields) -> Got
     ensures { λ r. ⌜ r ≡ readChannel f (now (s .entry)) at ⌝ }
 {
     let b = byte_or_zero(s, at);
@@ -104,7 +104,7 @@ pub fn channel_at(s: &[u8], at: usize, f: Fields) -> Got
 }
 
 // d: 1 to 10 digits, with the sign that stood before them.
-pub fn number_from(s: &[u8], at: usize, minus: bool, f: Fields) -> Got
+fn number_from(s: &[u8], at: usize, minus: bool, f: Fields) -> Got
     ensures { λ r. ⌜ r ≡ readNumber minus f (now (s .entry)) at ⌝ }
 {
     match number_at(s, at) {
@@ -114,7 +114,7 @@ pub fn number_from(s: &[u8], at: usize, minus: bool, f: Fields) -> Got
 }
 
 // ±d: a sign, then 1 to 10 digits.
-pub fn signed_at(s: &[u8], at: usize, f: Fields) -> Got
+fn signed_at(s: &[u8], at: usize, f: Fields) -> Got
     ensures { λ r. ⌜ r ≡ readSigned f (now (s .entry)) at ⌝ }
 {
     let sign = byte_or_zero(s, at);
@@ -128,7 +128,7 @@ pub fn signed_at(s: &[u8], at: usize, f: Fields) -> Got
 }
 
 // e: one digit.
-pub fn digit_at(s: &[u8], at: usize, f: Fields) -> Got
+fn digit_at(s: &[u8], at: usize, f: Fields) -> Got
     ensures { λ r. ⌜ r ≡ readDigit f (now (s .entry)) at ⌝ }
 {
     let b = byte_or_zero(s, at);
@@ -140,7 +140,7 @@ pub fn digit_at(s: &[u8], at: usize, f: Fields) -> Got
 }
 
 // The ? of STSx?.
-pub fn question_at(s: &[u8], at: usize, f: Fields) -> Got
+fn question_at(s: &[u8], at: usize, f: Fields) -> Got
     ensures { λ r. ⌜ r ≡ readQuestion f (now (s .entry)) at ⌝ }
 {
     if byte_or_zero(s, at) == b'?' {
@@ -180,7 +180,7 @@ fn four_digits(s: &[u8], at: usize) -> Four
 }
 
 // DYYY or ABCD: each letter is one decimal digit.
-pub fn four_at(s: &[u8], at: usize, f: Fields) -> Got
+fn four_at(s: &[u8], at: usize, f: Fields) -> Got
     ensures { λ r. ⌜ r ≡ readFour f (now (s .entry)) at ⌝ }
 {
     if 4 <= digits_at(s, at) {
@@ -191,7 +191,7 @@ pub fn four_at(s: &[u8], at: usize, f: Fields) -> Got
 }
 
 // 0yyy: four digits, of which the first is 0 itself.
-pub fn zero_three_at(s: &[u8], at: usize, f: Fields) -> Got
+fn zero_three_at(s: &[u8], at: usize, f: Fields) -> Got
     ensures { λ r. ⌜ r ≡ readZeroThree f (now (s .entry)) at ⌝ }
 {
     if 4 <= digits_at(s, at) {
@@ -206,7 +206,7 @@ pub fn zero_three_at(s: &[u8], at: usize, f: Fields) -> Got
 }
 
 // A field of any kind.
-pub fn field_at(s: &[u8], at: usize, kind: Field, f: Fields) -> Got
+fn field_at(s: &[u8], at: usize, kind: Field, f: Fields) -> Got
     ensures { λ r. ⌜ r ≡ readField kind f (now (s .entry)) at ⌝ }
 {
     match kind {
@@ -225,7 +225,7 @@ pub fn field_at(s: &[u8], at: usize, kind: Field, f: Fields) -> Got
 }
 
 // The next field, where the one before it is there.
-pub fn onward_at(s: &[u8], got: Got, kind: Field) -> Got
+fn onward_at(s: &[u8], got: Got, kind: Field) -> Got
     ensures { λ r. ⌜ r ≡ onward got (λ f to. readField kind f (now (s .entry)) to) ⌝ }
 {
     match got {
