@@ -2,7 +2,6 @@
 use mathlib.Core.Path.{_≡_, refl, sym, ap, _∙_}
 use mathlib.Core.List.{List, [], _∷_, _++_, map}
 use mathlib.Core.Bool.{Bool, true, false, _&&_, cond, and-eq-true-iff, false≢true}
-use Prim.Native.Char.{code}
 use Prim.Native.Nat.{ℕ, _≤_}
 use native.Mathlib.Omega.{arith}
 use lib.ListN.{length, take, drop}
@@ -18,7 +17,7 @@ use Rattle.line.specs.declared.Order.{Order}
 use Rattle.line.specs.declared.Parsed.{Parsed}
 use Rattle.line.specs.declared.Parsed.the-variants.{Is, Nothing}
 use Rattle.line.specs.Shapes.{noFields, withChannel, withWritten, withFirst, withSecond, readFields}
-use Rattle.line.specs.Forms.{Row, forms, those, complete, fieldsAsRow, asRow, firstOf, firstForm, orderOf}
+use Rattle.line.specs.Forms.{Row, forms, those, complete, fieldsAsRow, asRow, orderOf}
 use Rattle.line.specs.Computing.{computing-line}
 use Rattle.line.proofs.StencilLaws.{Range, fits, apart, apart-not, stencil, ends, fields-fit, letters, word-fits}
 

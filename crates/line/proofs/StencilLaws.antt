@@ -4,14 +4,14 @@ use mathlib.Core.Path.{_≡_, refl, sym, ap, _∙_}
 use mathlib.Core.List.{List, [], _∷_, _++_, map}
 use mathlib.Core.Bool.{Bool, true, false, _&&_, _||_, cond, and-eq-true-iff, false≢true}
 use Prim.Native.Char.{code}
-use Prim.Native.Nat.{ℕ, zero, suc, _+_, _<_, _≤_}
+use Prim.Native.Nat.{ℕ, suc, _+_, _<_, _≤_}
 use native.Mathlib.Omega.{arith}
 use native.Mathlib.Nat.{not-suc-le-zero}
 use native.Mathlib.Numerals.{add-one}
-use lib.ListN.{length, take, drop, getD, drop-of-length-le, List·getD-eq-default}
+use lib.ListN.{length, take, drop, drop-of-length-le, List·getD-eq-default}
 use lib.Seq.{drop-cons, drop-length}
 use lib.Dec.{leb, ltb, eqb}
-use borrow.Author.Tests.{eqb-true, leb-true, leb-false, le-leb, lt-leb, ltb-true, lt-ltb}
+use borrow.Author.Tests.{eqb-true, leb-true, leb-false, le-leb, lt-leb, ltb-true}
 use Rattle.digits.specs.Text.{same, isDigit, isHex, digitsAtFront, valueOf, numberAtFront}
 use Rattle.digits.specs.declared.decimal.Number.the-variants as N
 use Rattle.line.specs.declared.Fields.{Fields}
@@ -20,7 +20,6 @@ use Rattle.line.specs.declared.Field.the-variants.{Channel, Signed, Unsi
 use Rattle.line.specs.declared.Got.{Got}
 use Rattle.line.specs.declared.Got.the-variants.{Here, Absent}
 use Rattle.line.specs.Shapes.{gotIf, byteAt, readChannel, readNumber, readSigned, readDigit, readQuestion, readLetters, readFour, readZeroThree, readField, onward, readFields, numbered}
-use Rattle.line.proofs.ReadLaws.{byte-there}
 
 -- bytes from one to another, both among them
 pub record Range : Type 0 where
@@ -69,6 +68,10 @@ apart [] a (d ∷ ds) b = a
 apart (c ∷ cs) a [] b = b
 apart (c ∷ cs) a (d ∷ ds) b = disjoint c d || apart cs a ds b
 
+and-false : (t : Bool) → (t && false) ≡ false
+and-false true = refl
+and-false false = refl
+
 clear-not : (p : Range) (d : List Range) (b : ℕ) → clear p d ≡ true → p .lo ≤ b → b ≤ p .hi → within d b ≡ false
 clear-not p [] b h l u = refl
 clear-not p (q ∷ qs) b h l u =
@@ -78,10 +81,6 @@ clear-not p (q ∷ qs) b h l u =
     out : (t : Bool) → ltb (p .hi) (q .lo) ≡ t → (t || ltb (q .hi) (p .lo)) ≡ true → (leb (q .lo) b && leb b (q .hi)) ≡ false
     out true e h = let i : p .hi < q .lo = ltb-true (p .hi) (q .lo) e in rw (lt-leb (q .lo) b (omega arith))
     out false e h = let i : q .hi < p .lo = ltb-true (q .hi) (p .lo) h in rw (lt-leb b (q .hi) (omega arith)) (and-false (leb (q .lo) b))
-      where
-        and-false : (t : Bool) → (t && false) ≡ false
-        and-false true = refl
-        and-false false = refl
 
 disjoint-not : (c d : List Range) (b : ℕ) → disjoint c d ≡ true → within c b ≡ true → within d b ≡ false
 disjoint-not [] d b h w = absurd (false≢true w)
@@ -115,10 +114,6 @@ apart-not (c ∷ cs) a (d ∷ ds) b (x ∷ s) h f =
         → (apart cs a ds b ≡ true → fits ds b s ≡ false) → (within d x && fits ds b s) ≡ false
     go true e h w later = rw (disjoint-not c d x e w)
     go false e h w later = rw (later h) (and-false (within d x))
-      where
-        and-false : (t : Bool) → (t && false) ≡ false
-        and-false true = refl
-        and-false false = refl
 
 -- the bytes of a field, place by place; of a number the sign and the first digit
 abbrev pub classes : Field → List (List Range)

@@ -1,14 +1,14 @@
 -- The longest word finds each form and nothing else: `orderAt` after `wordAt` is `orderOf`. Assumes nothing.
 use mathlib.Core.Path.{_≡_, refl, sym, ap, _∙_}
-use mathlib.Core.List.{List, [], _∷_, _++_, map, append-nil, head-eq-of-cons-eq, tail-eq-of-cons-eq}
-use mathlib.Core.Bool.{Bool, true, false, not, _&&_, _||_, cond, and-eq-true-iff, false≢true}
-use Prim.Native.Nat.{ℕ, zero, suc, _+_, _-_, _<_, _≤_, min}
-use native.Mathlib.Nat.{zero-add, not-suc-le-zero}
+use mathlib.Core.List.{List, [], _∷_, map, append-nil, head-eq-of-cons-eq, tail-eq-of-cons-eq}
+use mathlib.Core.Bool.{Bool, true, false, not, _||_, cond, false≢true}
+use Prim.Native.Nat.{ℕ, zero, suc, _+_, _-_, _<_, _≤_}
+use native.Mathlib.Nat.{zero-add}
 use native.Mathlib.Omega.{arith}
 use lib.ListN.{length, take, drop}
 use lib.Seq.{take-all, length-take-le}
-use lib.Dec.{leb, eqb}
-use borrow.Author.Tests.{leb-true, leb-false, le-leb, lt-leb}
+use lib.Dec.{leb}
+use borrow.Author.Tests.{leb-true, leb-false}
 use Rattle.digits.specs.Text.{same}
 use Rattle.line.specs.declared.Field.{Field}
 use Rattle.line.specs.declared.Got.{Got}
@@ -20,9 +20,9 @@ use Rattle.line.specs.Forms.{Row, forms, those, complete, fieldsAsRow, asRow, f
 use Rattle.line.proofs.StencilLaws.{fits, apart, ends, letters, word-fits}
 use Rattle.line.proofs.FormLaws.{outline, apart-nothing}
 use Rattle.form.specs.declared.Word.{Word}
-use Rattle.form.specs.Table.{packed, rowsWith, isWord, repeated, rowsBy, shapeOf, fieldsBy, orderBy, shapeAfter, orderWith}
+use Rattle.form.specs.Table.{packed, isWord, rowsBy, shapeOf, fieldsBy, orderBy, shapeAfter, orderWith}
 use Rattle.form.specs.Computing.{computing-form}
-use Rattle.reader.specs.Finding.{longest, marked, wordAt, whole, caseAt, orderAt}
+use Rattle.reader.specs.Finding.{longest, wordAt, whole, caseAt, orderAt}
 use Rattle.reader.proofs.LetterLaws.{same-equal, same-itself, longest-whole}
 
 -- what holds of every row

@@ -1,3 +1,4 @@
+-- `form::orders::first_order` meets its contract. Assumes nothing.
 use mathlib.Core.List.{_++_}
 use Rattle.line.specs.declared.Parsed.the-variants.{Nothing}
 use Rattle.line.specs.Forms.{startRows, stopRows, settingRows, questionRows, headRows, forms}

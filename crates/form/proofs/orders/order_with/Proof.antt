@@ -1,3 +1,4 @@
+-- `form::orders::order_with` meets its contract. Assumes nothing.
 use borrow.Author.Needs.{needs}
 use Rattle.form.proofs.orders.order_with.Statement.{statement}
 use Rattle.form.proofs.orders.order_with.Tie as tie

@@ -1,3 +1,4 @@
+-- `form::orders::second_order` meets its contract. Assumes nothing.
 use mathlib.Core.Path.{refl}
 use mathlib.Core.List.{[]}
 use Rattle.line.specs.Forms.{forms}

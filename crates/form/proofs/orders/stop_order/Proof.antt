@@ -1,3 +1,4 @@
+-- `form::orders::stop_order` meets its contract. Assumes nothing.
 use mathlib.Core.Path.{refl}
 use Rattle.line.specs.Forms.{stopRows}
 use Rattle.form.specs.Computing.{computing-form}

@@ -1,3 +1,4 @@
+-- `form::shapes::shape_after` meets its contract. Assumes nothing.
 use borrow.Author.Needs.{needs}
 use Rattle.form.proofs.shapes.shape_after.Statement.{statement}
 use Rattle.form.proofs.shapes.shape_after.Tie as tie

@@ -1,3 +1,4 @@
+-- `line::field_reading::kind_at` meets its contract. Assumes nothing.
 use borrow.Author.Tests.{eq-eqb, ne-eqb}
 use Rattle.line.proofs.field_reading.kind_at.Statement.{statement}
 use Rattle.line.proofs.field_reading.kind_at.Tie as tie

@@ -1,3 +1,4 @@
+-- `reader::finding::is_word` meets its contract. Assumes nothing.
 use Rattle.reader.proofs.LetterLaws.{shape-there}
 use borrow.Author.Needs.{needs}
 use Rattle.reader.proofs.finding.is_word.Statement.{statement}

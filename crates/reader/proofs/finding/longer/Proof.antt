@@ -1,3 +1,4 @@
+-- `reader::finding::longer` meets its contract. Assumes nothing.
 use borrow.Author.Needs.{needs}
 use Rattle.reader.proofs.finding.longer.Statement.{statement}
 use Rattle.reader.proofs.finding.longer.Tie as tie

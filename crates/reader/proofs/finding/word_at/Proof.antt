@@ -1,3 +1,5 @@
+-- `reader::finding::word_at` meets its contract. The invariant: the letters so far are known
+-- by their number, and the word so far is the longest of them. Assumes nothing.
 use denote.Ref.{now}
 use borrow.Author.Needs.{needs}
 use native.Mathlib.Omega.{arith}

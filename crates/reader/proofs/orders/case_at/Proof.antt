@@ -1,3 +1,4 @@
+-- `reader::orders::case_at` meets its contract. Assumes nothing.
 use denote.Ref.{now}
 use mathlib.Core.Path.{_≡_}
 use lib.ListN.{length}

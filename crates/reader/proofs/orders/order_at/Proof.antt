@@ -1,3 +1,4 @@
+-- `reader::orders::order_at` meets its contract. Assumes nothing.
 use denote.Ref.{now}
 use mathlib.Core.Path.{sym}
 use Prim.Native.Nat.{_≤_}
