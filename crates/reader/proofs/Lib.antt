@@ -1,3 +1,4 @@
 pub mod LetterLaws
 pub mod FindingLaws
 pub mod Held
+pub mod Cases
