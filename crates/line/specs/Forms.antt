@@ -151,7 +151,7 @@ asRow r s =
 unfoldable pub forms : List Row
 forms = startRows ++ (stopRows ++ (settingRows ++ (questionRows ++ headRows)))
 
--- the rows that pass a test
+-- the rows that pass a test, for the laws of the table; `orderOf` has no need of it
 unfoldable pub those : (Row → Bool) → List Row → List Row
 those p [] = []
 those p (r ∷ rs) = cond (p r) (r ∷ those p rs) (those p rs)

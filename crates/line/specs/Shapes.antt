@@ -164,7 +164,8 @@ unfoldable pub readFields : List Field → Fields → List ℕ → ℕ → Got
 readFields [] f s at = Here f at
 readFields (k ∷ ks) f s at = onward (readField k f s at) (λ g to. readFields ks g s to)
 
--- the kind of field number i of a shape
+-- From here on, how the code reads the same fields: by three at most, as no row has more. That it comes to `readFields` is
+-- proved (`shape-fields` in crates/reader/proofs/FindingLaws.antt). The kind of field number i of a shape:
 abbrev pub kindAt : Shape → ℕ → Field
 kindAt k i = cond (eqb i 0) (k .first) (cond (eqb i 1) (k .second) (k .third))
 
