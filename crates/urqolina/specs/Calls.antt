@@ -21,7 +21,7 @@ use Rattle.table.specs.Layout.{tableSize, records, motorAt, withMotor, withMoto
 use Rattle.table.specs.Sound.{soundTable}
 use Rattle.urqolina.specs.Judging.{judge}
 use Rattle.urqolina.specs.Changing.{changed, flagged}
-use Rattle.urqolina.specs.Replies.{echo, answer}
+use Rattle.urqolina.specs.Answers.{told, answer}
 
 -- "Order: 5, 6, ..": the sizes first, then the table
 abbrev pub refusal : Bool → List ℕ → Verdict
@@ -55,7 +55,7 @@ replied v t text reply = record { result = numberOf v + 256 * length text; table
 
 -- a line that is refused with a number from 1 to 4
 unfoldable pub refused : List ℕ → Verdict → List ℕ → CommandAfter
-refused t v reply = replied v (flagged t v) (echo (flagged t v) v) reply
+refused t v reply = replied v (flagged t v) (told (flagged t v) v) reply
 
 -- an order that is accepted: the answer is made on the table after it
 unfoldable pub obeyed : List ℕ → Order → List ℕ → CommandAfter

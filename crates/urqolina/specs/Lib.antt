@@ -1,5 +1,5 @@
 pub mod Judging
 pub mod Changing
-pub mod Replies
+pub mod Answers
 pub mod Calls
 pub mod Computing

@@ -7,6 +7,7 @@ use lib.Dec.{eqb}
 use Rattle.digits.specs.Words.{bit, isSet}
 use Rattle.digits.specs.Places.{cw}
 use Rattle.digits.specs.Text.{bytes, digitByte, decimal, signedDecimal, hexDigit, hexByte}
+use Rattle.record.specs.declared.Setup.{Setup}
 use Rattle.record.specs.declared.Motor.{Motor}
 use Rattle.drive.specs.declared.Verdict.{Verdict}
 use Rattle.drive.specs.declared.Verdict.the-variants.{Done, NoForm, Busy, OutOfRange, LocalMode, Disabled, SwitchAhead, NoRoom, NotDriving, WrongSize, NotSound}
@@ -17,9 +18,6 @@ use Rattle.line.specs.declared.Question.{Question}
 use Rattle.line.specs.declared.Question.the-variants.{AskPosition, AskCwLimit, AskCcwLimit, AskSelected, AskSpeed, AskSwitches, AskMotor, AskStatus}
 use Rattle.line.specs.declared.HeadQuestion.{HeadQuestion}
 use Rattle.line.specs.declared.HeadQuestion.the-variants.{AskAllReply, AskFlags, AskError}
-use Rattle.line.specs.declared.Order.{Order}
-use Rattle.line.specs.declared.Order.the-variants.{Go, Stop, StopAll, ChangeSpeed, Set, Ask, Mode, AllReply, AskHead, ClearErrors, ClearError}
-use Rattle.table.specs.Layout.{mode, allReply, errors, motorAt}
 
 -- "No. | Text": the text for each number; 5 and 6 have "none"
 unfoldable pub textOf : Verdict → List ℕ
@@ -54,9 +52,8 @@ switchesText n =
     ∷ digitByte (bit 3 n) ∷ digitByte (bit 2 n) ∷ digitByte (bit 1 n) ∷ digitByte (bit 0 n) ∷ []
 
 -- `SETMT?`: ABCD, a digit each (000)
-unfoldable pub motorText : Motor → List ℕ
-motorText m =
-    digitByte (m .setup .a) ∷ digitByte (m .setup .b) ∷ digitByte (m .setup .c) ∷ digitByte (m .setup .d) ∷ []
+unfoldable pub motorText : Setup → List ℕ
+motorText s = digitByte (s .a) ∷ digitByte (s .b) ∷ digitByte (s .c) ∷ digitByte (s .d) ∷ []
 
 -- n where a test holds, else 0
 abbrev pub flagIf : Bool → ℕ → ℕ
@@ -86,16 +83,16 @@ statusText k x m =
     modeLetter k ∷ hexDigit x ∷ goingLetter (m .drive .going) ∷ hexDigit (statusV m)
     ∷ (hexByte (statusHH m) ++ positionText (m .place))
 
--- what is answered to a question about channel x
-unfoldable pub questionText : List ℕ → ℕ → Question → List ℕ
-questionText t x AskPosition = positionText (motorAt t x .place)
-questionText t x AskCwLimit = positionText (motorAt t x .limits .cw)
-questionText t x AskCcwLimit = positionText (motorAt t x .limits .ccw)
-questionText t x AskSelected = selectedText (motorAt t x .speeds .selected)
-questionText t x (AskSpeed k) = speedText (speedNumbered k (motorAt t x .speeds))
-questionText t x AskSwitches = switchesText (motorAt t x .wiring .setls)
-questionText t x AskMotor = motorText (motorAt t x)
-questionText t x AskStatus = statusText (mode t) x (motorAt t x)
+-- what is answered to a question about channel x, with the mode k and the channel's motor
+unfoldable pub questionText : ℕ → ℕ → Motor → Question → List ℕ
+questionText k x m AskPosition = positionText (m .place)
+questionText k x m AskCwLimit = positionText (m .limits .cw)
+questionText k x m AskCcwLimit = positionText (m .limits .ccw)
+questionText k x m AskSelected = selectedText (m .speeds .selected)
+questionText k x m (AskSpeed n) = speedText (speedNumbered n (m .speeds))
+questionText k x m AskSwitches = switchesText (m .wiring .setls)
+questionText k x m AskMotor = motorText (m .setup)
+questionText k x m AskStatus = statusText k x m
 
 -- "`ERR?` the lowest error's text (bit 3 is OTHER ERROR) or NO ERROR"
 unfoldable pub errorText : ℕ → List ℕ
@@ -106,26 +103,14 @@ errorText e =
     (cond (isSet 3 e) (bytes "OTHER ERROR")
     (bytes "NO ERROR"))))
 
--- "Other commands, and numbers 1 to 4, write their text if all-reply is on after the command, else nothing"
-unfoldable pub echo : List ℕ → Verdict → List ℕ
-echo t v = cond (eqb (allReply t) 1) (textOf v) []
+-- "Other commands, and numbers 1 to 4, write their text if all-reply is on after the command, else nothing": `all` is the
+-- head's all-reply after the command
+unfoldable pub echo : ℕ → Verdict → List ℕ
+echo all v = cond (eqb all 1) (textOf v) []
 
--- what is answered to a question about the head: "`ALL_REP?` EN or DS"; "`ERRF?` two hex digits"
-unfoldable pub headText : List ℕ → HeadQuestion → List ℕ
-headText t AskAllReply = cond (eqb (allReply t) 1) (bytes "EN") (bytes "DS")
-headText t AskFlags = hexByte (errors t)
-headText t AskError = errorText (errors t)
-
--- the answer to an accepted order, on the table after it: "A read's reply is always written"
-unfoldable pub answer : List ℕ → Order → List ℕ
-answer t (Go x s) = echo t Done
-answer t (Stop x e) = echo t Done
-answer t (StopAll e) = echo t Done
-answer t (ChangeSpeed x v) = echo t Done
-answer t (Set x s) = echo t Done
-answer t (Ask x q) = questionText t x q
-answer t (Mode k) = echo t Done
-answer t (AllReply k) = echo t Done
-answer t (AskHead q) = headText t q
-answer t ClearErrors = echo t Done
-answer t (ClearError e) = echo t Done
+-- what is answered to a question about the head, with its all-reply and its error flags: "`ALL_REP?` EN or DS"; "`ERRF?` two
+-- hex digits"
+unfoldable pub headText : ℕ → ℕ → HeadQuestion → List ℕ
+headText all flags AskAllReply = cond (eqb all 1) (bytes "EN") (bytes "DS")
+headText all flags AskFlags = hexByte flags
+headText all flags AskError = errorText flags

@@ -1,0 +1,3 @@
+pub mod Values
+pub mod Settings
+pub mod Computing
