@@ -32,6 +32,10 @@ courseOf m (Rel w) = courseTo m (directionOf w) (m .place) (w .digits)
 courseOf m (Scan going) = Along going
 courseOf m (Jog going) = courseTo m going (m .place) 1
 
+-- the speeds with another one selected
+abbrev pub selecting : Speeds → ℕ → Speeds
+selecting s k = record { high = s .high; middle = s .middle; low = s .low; selected = k }
+
 -- "0 L, 1 M, 2 H": the speeds with the one numbered k replaced
 abbrev pub withSpeed : Speeds → ℕ → ℕ → Speeds
 withSpeed s k v =
@@ -51,8 +55,7 @@ unfoldable pub withSetting : Motor → Setting → Motor
 withSetting m (Preset w) = withPlace m (placeWritten w)
 withSetting m (SetCwLimit w) = withLimits m (record { cw = placeWritten w; ccw = m .limits .ccw })
 withSetting m (SetCcwLimit w) = withLimits m (record { cw = m .limits .cw; ccw = placeWritten w })
-withSetting m (Select k) =
-    withSpeeds m (record { high = m .speeds .high; middle = m .speeds .middle; low = m .speeds .low; selected = k })
+withSetting m (Select k) = withSpeeds m (selecting (m .speeds) k)
 withSetting m (SetSpeed k v) = withSpeeds m (withSpeed (m .speeds) k v)
 withSetting m (SetSwitches q r) =
     withWiring m (record { setls = 16 * binary q + binary r; contacts = m .wiring .contacts })
