@@ -3,3 +3,4 @@ pub mod StencilLaws
 pub mod FormLaws
 pub mod Laws
 pub mod Cases
+pub mod OrderLaws
