@@ -9,7 +9,6 @@ use mathlib.Core.Bool.{Bool, true, false, _&&_, _||_, cond, and-eq-true-iff}
 use lib.ListN.{length, take, drop}
 use lib.Dec.{eqb, leb}
 use borrow.Author.Tests.{leb-true, le-leb}
-use Rattle.digits.specs.Places.{cw, ccw}
 use Rattle.digits.specs.Text.{isDigit, isHex, hexValue, same, digitsAtFront, numberAtFront}
 use Rattle.digits.specs.declared.decimal.Number.{Number}
 use Rattle.digits.specs.declared.decimal.Number.the-variants as N
@@ -18,56 +17,13 @@ use Rattle.line.specs.declared.Field.{Field}
 use Rattle.line.specs.declared.Field.the-variants.{Channel, Signed, Unsigned, Digit, Question, FourDigits, ZeroThree, Enable, Disable, End, Never}
 use Rattle.line.specs.declared.Got.{Got}
 use Rattle.line.specs.declared.Got.the-variants.{Here, Absent}
-use Rattle.line.specs.declared.Start.{Start}
-use Rattle.line.specs.declared.Start.the-variants.{Abs, Rel, Scan, Jog}
-use Rattle.line.specs.declared.Setting.{Setting}
-use Rattle.line.specs.declared.Setting.the-variants.{Preset, SetCwLimit, SetCcwLimit, Select, SetSpeed, SetSwitches, SetMotor}
 use Rattle.line.specs.declared.Order.{Order}
-use Rattle.line.specs.declared.Order.the-variants.{Go, Stop, StopAll, ChangeSpeed, Set, Ask, Mode, AllReply, AskHead, ClearErrors, ClearError}
 use Rattle.line.specs.declared.Parsed.{Parsed}
 use Rattle.line.specs.declared.Parsed.the-variants.{Is, Nothing}
 use Rattle.line.specs.Shapes.{gotIf, withChannel, withWritten, withFirst, withSecond, byteAt, digitAt, fourOf, numbered, noFields, onward, readChannel, readNumber, readSigned, readDigit, readQuestion, readLetters, readFour, readZeroThree, readField, readFields}
-use Rattle.line.specs.Forms.{Row, forms, ssend, esend, complete, fieldsAsRow, asRow, firstOf, firstForm, orderOf}
+use Rattle.line.specs.Forms.{Row, forms, complete, fieldsAsRow, asRow, firstOf, firstForm, orderOf}
+use Rattle.line.specs.Made.{orderMade}
 use Rattle.line.specs.Computing.{computing-line}
-
--- one of the sixteen channels
-abbrev pub onBench : ℕ → Bool
-onBench x = leb x 15
-
-abbrev pub direction : ℕ → Bool
-direction going = eqb going cw || eqb going ccw
-
-abbrev pub endFlag : ℕ → Bool
-endFlag flags = eqb flags ssend || eqb flags esend
-
-abbrev pub startMade : Start → Bool
-startMade (Abs w) = true
-startMade (Rel w) = true
-startMade (Scan going) = direction going
-startMade (Jog going) = direction going
-
-abbrev pub settingMade : Setting → Bool
-settingMade (Preset w) = true
-settingMade (SetCwLimit w) = true
-settingMade (SetCcwLimit w) = true
-settingMade (Select k) = leb k 2
-settingMade (SetSpeed k v) = leb k 2
-settingMade (SetSwitches q r) = true
-settingMade (SetMotor q) = true
-
--- an order as a line makes it
-unfoldable pub orderMade : Order → Bool
-orderMade (Go x s) = onBench x && startMade s
-orderMade (Stop x flags) = onBench x && endFlag flags
-orderMade (StopAll flags) = endFlag flags
-orderMade (ChangeSpeed x v) = onBench x
-orderMade (Set x s) = onBench x && settingMade s
-orderMade (Ask x q) = onBench x
-orderMade (Mode k) = leb k 1
-orderMade (AllReply k) = leb k 1
-orderMade (AskHead q) = true
-orderMade ClearErrors = true
-orderMade (ClearError e) = true
 
 -- the channel among the fields that were read
 channelOf : Got → ℕ

@@ -1,3 +1,4 @@
 pub mod Shapes
 pub mod Forms
+pub mod Made
 pub mod Computing

@@ -131,7 +131,7 @@ fn with_setup(m: Motor, s: Setup) -> Motor
 }
 
 // A speed as a motor holds it.
-fn speed_written(v: u64) -> u32
+pub fn speed_written(v: u64) -> u32
     requires { ⌜ isSpeed v ≡ true ⌝ }
     ensures { λ r. ⌜ r ≡ v ⌝ }
 {

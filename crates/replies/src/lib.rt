@@ -1,1 +1,91 @@
 // What is answered, written straight into the reply buffer that the caller lends. What stands in each answer is said in specs/.
+
+pub mod settings;
+pub mod status;
+pub mod texts;
+
+use crate::settings::speed_numbered;
+use crate::settings::write_selected;
+use crate::settings::write_setup;
+use crate::settings::write_switches;
+use crate::status::write_status;
+use crate::texts::write_all_reply;
+use crate::texts::write_error;
+use crate::texts::write_verdict;
+use digits::decimal::write_decimal;
+use digits::decimal::write_signed;
+use digits::hex::write_hex;
+use drive::Verdict;
+use line::HeadQuestion;
+use line::Question;
+use record::Motor;
+ghost use mathlib.Core.Path.{_≡_};
+ghost use mathlib.Core.Bool.{true};
+ghost use Prim.Native.Nat.{_≤_};
+ghost use lib.ListN.{length};
+ghost use Rattle.digits.specs.Text.{Wrote};
+ghost use Rattle.motor.specs.Sound.{setupInRange};
+ghost use Rattle.drive.specs.Numbers.{numberOf};
+ghost use Rattle.replies.specs.Replies.{echo, headText, questionText};
+
+// The number that is handed back for a verdict.
+pub fn number_of(v: Verdict) -> u32
+    ensures { λ r. ⌜ r ≡ numberOf v ⌝ }
+{
+    match v {
+        Verdict::Done => 0,
+        Verdict::NoForm => 1,
+        Verdict::Busy => 2,
+        Verdict::OutOfRange => 3,
+        Verdict::WrongSize => 5,
+        Verdict::NotSound => 6,
+        _ => 4,
+    }
+}
+
+// The text of a verdict where all-reply is on, else nothing.
+pub fn write_echo(out: &mut [u8], all: u8, v: Verdict) -> usize
+    requires { ⌜ 32 ≤ length (now out) ⌝ }
+    ensures { λ r. ⌜ Wrote (now (out .entry)) (now (out .exit)) (echo all v) r ⌝ }
+    ensures { λ r. ⌜ r ≤ 32 ⌝ }
+{
+    if all == 1 { write_verdict(out, v) } else { 0 }
+}
+
+// What is answered to a question about the head.
+pub fn write_head(out: &mut [u8], all: u8, flags: u8, q: HeadQuestion) -> usize
+    requires { ⌜ 32 ≤ length (now out) ⌝ }
+    ensures { λ r. ⌜ Wrote (now (out .entry)) (now (out .exit)) (headText all flags q) r ⌝ }
+    ensures { λ r. ⌜ r ≤ 32 ⌝ }
+{
+    match q {
+        HeadQuestion::AskAllReply => write_all_reply(out, all),
+        HeadQuestion::AskFlags => {
+            write_hex(out, flags);
+            2
+        }
+        HeadQuestion::AskError => write_error(out, flags),
+    }
+}
+
+// What is answered to a question about channel x, in the mode k and with the channel's motor.
+pub fn write_question(out: &mut [u8], k: u8, x: u8, m: Motor, q: Question) -> usize
+    requires { ⌜ 32 ≤ length (now out) ⌝ }
+    requires { ⌜ x ≤ 15 ⌝ }
+    requires { ⌜ setupInRange (m .setup) ≡ true ⌝ }
+    ensures { λ r. ⌜ Wrote (now (out .entry)) (now (out .exit)) (questionText k x m q) r ⌝ }
+    ensures { λ r. ⌜ r ≤ 32 ⌝ }
+{
+    let speeds = m.speeds;
+    let setup = m.setup;
+    match q {
+        Question::AskPosition => write_signed(out, 7, m.place),
+        Question::AskCwLimit => write_signed(out, 7, m.limits.cw),
+        Question::AskCcwLimit => write_signed(out, 7, m.limits.ccw),
+        Question::AskSelected => write_selected(out, speeds.selected),
+        Question::AskSpeed(n) => write_decimal(out, 6, speed_numbered(n, speeds)),
+        Question::AskSwitches => write_switches(out, m.wiring.setls),
+        Question::AskMotor => write_setup(out, setup),
+        Question::AskStatus => write_status(out, k, x, m),
+    }
+}

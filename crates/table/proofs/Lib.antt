@@ -1,1 +1,5 @@
+pub mod PieceLaws
+pub mod LoopLaws
+pub mod TableLaws
+pub mod KeptLaws
 pub mod Cases

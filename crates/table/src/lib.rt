@@ -1,2 +1,154 @@
 // The table in the 1,088 bytes that the host lends: a head of 64 bytes and sixteen records of 64. Its layout, the fresh table
 // and what makes a table sound are said in specs/.
+
+pub mod head;
+
+use digits::places::ORIGIN;
+use head::sound_head;
+use head::zero_head;
+use motor::sound_record;
+use record::Drive;
+use record::Limits;
+use record::Motor;
+use record::Setup;
+use record::Speeds;
+use record::Wiring;
+use record::read_motor;
+use record::write_motor;
+ghost use mathlib.Core.Path.{_≡_};
+ghost use Prim.Native.Nat.{_≤_};
+ghost use lib.ListN.{length};
+ghost use Rattle.digits.specs.Bytes.{put, every, gather};
+ghost use Rattle.record.specs.Record.{recordOf, freshMotor, standing};
+ghost use Rattle.motor.specs.Sound.{soundRecord};
+ghost use Rattle.table.specs.Layout.{tableSize, recordStart, recordAt, records, motorAt, withMotor, freshTable};
+ghost use Rattle.table.specs.Sound.{soundTable};
+
+// Where the record of a channel starts.
+fn record_start(c: u8) -> usize
+    requires { ⌜ c ≤ 15 ⌝ }
+    ensures { λ r. ⌜ r ≡ recordStart c ⌝ }
+{
+    64 + 64 * (c as usize)
+}
+
+// The motor of a channel.
+pub fn motor_at(t: &[u8], c: u8) -> Motor
+    requires { ⌜ (length (now t) ≡ tableSize) × (c ≤ 15) ⌝ }
+    ensures { λ r. ⌜ r ≡ motorAt (now (t .entry)) c ⌝ }
+{
+    let start = record_start(c);
+    let end = start + 64;
+    read_motor(&t[start..end])
+}
+
+// Writes a channel's record anew; every other byte stays as it is.
+pub fn put_motor(t: &mut [u8], c: u8, m: Motor)
+    requires { ⌜ (length (now t) ≡ tableSize) × (c ≤ 15) ⌝ }
+    ensures { λ _. ⌜ now (t .exit) ≡ withMotor (now (t .entry)) c m ⌝ }
+{
+    let start = record_start(c);
+    let end = start + 64;
+    write_motor(&mut t[start..end], m)
+}
+
+// Whether the record of a channel is sound.
+fn sound_at(t: &[u8], c: u8) -> bool
+    requires { ⌜ (length (now t) ≡ tableSize) × (c ≤ 15) ⌝ }
+    ensures { λ r. ⌜ r ≡ soundRecord (recordAt (now (t .entry)) c) ⌝ }
+{
+    let start = record_start(c);
+    let end = start + 64;
+    sound_record(&t[start..end])
+}
+
+// Whether all sixteen records are sound.
+fn sound_records(t: &[u8]) -> bool
+    requires { ⌜ length (now t) ≡ tableSize ⌝ }
+    ensures { λ r. ⌜ r ≡ every soundRecord (records (now (t .entry))) ⌝ }
+{
+    let mut sound = true;
+    let mut judged: u8 = 0;
+    while judged < 16 {
+        sound = sound & sound_at(t, judged);
+        judged += 1;
+    }
+    sound
+}
+
+// Whether bytes are a sound table: bytes of any number and any value are judged.
+pub fn sound_table(t: &[u8]) -> bool
+    ensures { λ r. ⌜ r ≡ soundTable (now (t .entry)) ⌝ }
+{
+    if t.len() == 1088 {
+        sound_head(t) & sound_records(t)
+    } else {
+        false
+    }
+}
+
+// No drive.
+fn no_drive() -> Drive
+    ensures { λ r. ⌜ r ≡ standing ⌝ }
+{
+    Drive {
+        going: 0,
+        kind: 0,
+        fraction: 0,
+        speed: 0,
+        target: ORIGIN,
+    }
+}
+
+// The motor of each channel of a fresh table.
+fn fresh_motor() -> Motor
+    ensures { λ r. ⌜ r ≡ freshMotor ⌝ }
+{
+    Motor {
+        place: ORIGIN,
+        limits: Limits {
+            cw: ORIGIN + 1000000,
+            ccw: ORIGIN - 1000000,
+        },
+        speeds: Speeds {
+            high: 1000,
+            middle: 800,
+            low: 50,
+            selected: 1,
+        },
+        wiring: Wiring {
+            setls: 0b01110000,
+            contacts: 0,
+        },
+        setup: Setup {
+            a: 1,
+            b: 1,
+            c: 0,
+            d: 0,
+        },
+        ended: 0,
+        drive: no_drive(),
+    }
+}
+
+// Writes a fresh motor into all sixteen records.
+fn fresh_records(t: &mut [u8])
+    requires { ⌜ length (now t) ≡ tableSize ⌝ }
+    ensures { λ _. ⌜ now (t .exit) ≡ put (now (t .entry)) 64 (gather (λ c. recordOf freshMotor) 16) ⌝ }
+{
+    let m = fresh_motor();
+    let mut c: u8 = 0;
+    while c < 16 {
+        put_motor(t, c, m);
+        c += 1;
+    }
+}
+
+// Writes a fresh table: every one of its bytes.
+pub fn make_fresh(t: &mut [u8])
+    requires { ⌜ length (now t) ≡ tableSize ⌝ }
+    ensures { λ _. ⌜ now (t .exit) ≡ freshTable ⌝ }
+{
+    zero_head(t);
+    fresh_records(t);
+}

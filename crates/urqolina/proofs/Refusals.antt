@@ -26,7 +26,7 @@ use Rattle.table.specs.Layout.{tableSize, mode, motorAt, freshTable}
 use Rattle.table.specs.Sound.{soundTable}
 use Rattle.orders.specs.Values.{needsRemote, valueInRange}
 use Rattle.orders.specs.Settings.{courseOf}
-use Rattle.urqolina.specs.Judging.{busy, judgeMotor, judge}
+use Rattle.commands.specs.Judging.{busy, judgeMotor, judge}
 use Rattle.urqolina.specs.Calls.{freshCall, refused, obeyed, taken, commandCall, readingCall, tickCall}
 
 -- a fresh call makes the fresh table and gives 0, or gives 5 and leaves the bytes

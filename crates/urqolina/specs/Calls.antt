@@ -19,9 +19,9 @@ use Rattle.line.specs.declared.Parsed.the-variants.{Is, Nothing}
 use Rattle.line.specs.Forms.{orderOf}
 use Rattle.table.specs.Layout.{tableSize, records, motorAt, withMotor, withMotors, freshTable}
 use Rattle.table.specs.Sound.{soundTable}
-use Rattle.urqolina.specs.Judging.{judge}
-use Rattle.urqolina.specs.Changing.{changed, flagged}
-use Rattle.urqolina.specs.Answers.{told, answer}
+use Rattle.commands.specs.Judging.{judge}
+use Rattle.commands.specs.Changing.{changed, flagged}
+use Rattle.commands.specs.Answers.{told, answer}
 
 -- "Order: 5, 6, ..": the sizes first, then the table
 abbrev pub refusal : Bool → List ℕ → Verdict

@@ -1,5 +1,2 @@
-pub mod Judging
-pub mod Changing
-pub mod Answers
 pub mod Calls
 pub mod Computing

@@ -1,0 +1,189 @@
+-- `commands::changing::change` meets its contract. Assumes nothing.
+use borrow.Author.Tests.{leb-true}
+use Rattle.commands.proofs.ChannelLaws.{named, named-channel}
+use Rattle.orders.specs.Values.{valueInRange}
+use Rattle.commands.specs.Changing.{changed}
+use borrow.Author.Needs.{needs}
+use Rattle.commands.proofs.changing.change.Statement.{statement}
+use Rattle.commands.proofs.changing.change.Tie as tie
+
+enum-known-o : tie.Need-enum-known-o
+enum-known-o c = search needs
+
+make-start-requires : tie.Need-make-start-requires
+unfolding named valueInRange
+make-start-requires c κs = (c .before .before .before .before .before .pre .0, rw (c .before .before .o .given .1) at (named-channel _ (c .before .before .before .before .before .pre .1)), rw (c .before .before .o .given .1) at (c .before .before .before .before .before .pre .2))
+
+enum-known-o-2 : tie.Need-enum-known-o-2
+enum-known-o-2 c = search needs
+
+make-stop-requires : tie.Need-make-stop-requires
+unfolding named
+make-stop-requires c κs = (c .before .before .before .before .before .pre .0, rw (c .before .before .o2 .given .1) at (named-channel _ (c .before .before .before .before .before .pre .1)))
+
+enum-known-o-3 : tie.Need-enum-known-o-3
+enum-known-o-3 c = search needs
+
+stop-all-requires : tie.Need-stop-all-requires
+stop-all-requires c κs = search needs
+
+enum-known-o-4 : tie.Need-enum-known-o-4
+enum-known-o-4 c = search needs
+
+make-speed-requires : tie.Need-make-speed-requires
+unfolding named valueInRange
+make-speed-requires c κs = (c .before .before .before .before .before .pre .0, rw (c .before .before .o4 .given .1) at (named-channel _ (c .before .before .before .before .before .pre .1)), rw (c .before .before .o4 .given .1) at (c .before .before .before .before .before .pre .2))
+
+enum-known-o-5 : tie.Need-enum-known-o-5
+enum-known-o-5 c = search needs
+
+make-setting-requires : tie.Need-make-setting-requires
+unfolding named valueInRange
+make-setting-requires c κs = (c .before .before .before .before .before .pre .0, rw (c .before .before .o5 .given .1) at (named-channel _ (c .before .before .before .before .before .pre .1)), rw (c .before .before .o5 .given .1) at (c .before .before .before .before .before .pre .2))
+
+enum-told : tie.Need-enum-told
+enum-told c = search needs
+
+enum-known-o-6 : tie.Need-enum-known-o-6
+enum-known-o-6 c = search needs
+
+set-mode-requires : tie.Need-set-mode-requires
+set-mode-requires c κs = search needs
+
+enum-known-o-7 : tie.Need-enum-known-o-7
+enum-known-o-7 c = search needs
+
+set-all-reply-requires : tie.Need-set-all-reply-requires
+set-all-reply-requires c κs = search needs
+
+enum-told-2 : tie.Need-enum-told-2
+enum-told-2 c = search needs
+
+enum-told-3 : tie.Need-enum-told-3
+enum-told-3 c = search needs
+
+set-errors-requires : tie.Need-set-errors-requires
+set-errors-requires c κs = search needs
+
+enum-known-o-8 : tie.Need-enum-known-o-8
+enum-known-o-8 c = search needs
+
+clear-flag-requires : tie.Need-clear-flag-requires
+unfolding valueInRange
+clear-flag-requires c κs = (c .before .before .before .before .before .pre .0, leb-true _ 3 (rw (c .before .before .o8 .given .1) at (c .before .before .before .before .before .pre .2)))
+
+same-length : tie.Need-same-length
+same-length c = search needs
+
+returns : tie.Need-returns
+unfolding changed
+returns c = rw (c .before .before .before .before .before .o .given .1, c .before .before .make-start .ensures)
+
+same-length-2 : tie.Need-same-length-2
+same-length-2 c = search needs
+
+returns-2 : tie.Need-returns-2
+unfolding changed
+returns-2 c = rw (c .before .before .before .before .before .o2 .given .1, c .before .before .make-stop .ensures)
+
+same-length-3 : tie.Need-same-length-3
+same-length-3 c = search needs
+
+returns-3 : tie.Need-returns-3
+unfolding changed
+returns-3 c = rw (c .before .before .before .before .before .o3 .given .1, c .before .before .stop-all .ensures)
+
+same-length-4 : tie.Need-same-length-4
+same-length-4 c = search needs
+
+returns-4 : tie.Need-returns-4
+unfolding changed
+returns-4 c = rw (c .before .before .before .before .before .o4 .given .1, c .before .before .make-speed .ensures)
+
+same-length-5 : tie.Need-same-length-5
+same-length-5 c = search needs
+
+returns-5 : tie.Need-returns-5
+unfolding changed
+returns-5 c = rw (c .before .before .before .before .before .o5 .given .1, c .before .before .make-setting .ensures)
+
+returns-6 : tie.Need-returns-6
+unfolding changed
+returns-6 c = rw (c .enum-told .given .1)
+
+same-length-6 : tie.Need-same-length-6
+same-length-6 c = search needs
+
+returns-7 : tie.Need-returns-7
+unfolding changed
+returns-7 c = rw (c .before .before .before .before .before .o6 .given .1, c .before .before .set-mode .ensures)
+
+same-length-7 : tie.Need-same-length-7
+same-length-7 c = search needs
+
+returns-8 : tie.Need-returns-8
+unfolding changed
+returns-8 c = rw (c .before .before .before .before .before .o7 .given .1, c .before .before .set-all-reply .ensures)
+
+returns-9 : tie.Need-returns-9
+unfolding changed
+returns-9 c = rw (c .enum-told2 .given .1)
+
+same-length-8 : tie.Need-same-length-8
+same-length-8 c = search needs
+
+returns-10 : tie.Need-returns-10
+unfolding changed
+returns-10 c = rw (c .before .before .before .before .enum-told3 .given .1, c .before .before .set-errors .ensures)
+
+same-length-9 : tie.Need-same-length-9
+same-length-9 c = search needs
+
+returns-11 : tie.Need-returns-11
+unfolding changed
+returns-11 c = rw (c .before .before .before .before .before .o8 .given .1, c .before .before .clear-flag .ensures)
+
+pub change-spec : {M : Type 1} → statement M
+change-spec =
+    tie.close
+    (tie.spec
+    enum-known-o
+    make-start-requires
+    enum-known-o-2
+    make-stop-requires
+    enum-known-o-3
+    stop-all-requires
+    enum-known-o-4
+    make-speed-requires
+    enum-known-o-5
+    make-setting-requires
+    enum-told
+    enum-known-o-6
+    set-mode-requires
+    enum-known-o-7
+    set-all-reply-requires
+    enum-told-2
+    enum-told-3
+    set-errors-requires
+    enum-known-o-8
+    clear-flag-requires
+    same-length
+    returns
+    same-length-2
+    returns-2
+    same-length-3
+    returns-3
+    same-length-4
+    returns-4
+    same-length-5
+    returns-5
+    returns-6
+    same-length-6
+    returns-7
+    same-length-7
+    returns-8
+    returns-9
+    same-length-8
+    returns-10
+    same-length-9
+    returns-11)

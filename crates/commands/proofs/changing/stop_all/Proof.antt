@@ -1,0 +1,57 @@
+-- `commands::changing::stop_all` meets its contract. Assumes nothing.
+use borrow.Author.Needs.{needs}
+use native.Mathlib.Omega.{arith}
+use mathlib.Core.Path.{_≡_, sym}
+use Prim.Native.Nat.{_-_, _≤_}
+use lib.ListN.{length}
+use Rattle.table.specs.Layout.{tableSize}
+use Rattle.drive.specs.Drives.{stopped}
+use Rattle.table.proofs.TableLaws.{upTo, up-to-none, up-to-next, up-to-all}
+use Rattle.commands.proofs.changing.stop_all.Statement.{statement}
+use Rattle.commands.proofs.changing.stop_all.Tie as tie
+
+abbrev Inv-loop : tie.InvT-loop
+Inv-loop t₀ flags x₀ t x = (x ≤ 16) × (length t ≡ tableSize) × (t ≡ upTo (stopped flags) x t₀)
+
+abbrev μ-loop : tie.MeasureT-loop
+μ-loop t₀ flags x₀ t x = 16 - x
+
+loop-holds : tie.Need-loop-holds Inv-loop μ-loop
+loop-holds c = (search needs, search needs, sym (up-to-none _ (c .before .args .t .now)))
+
+make-stop-requires : tie.Need-make-stop-requires Inv-loop μ-loop
+make-stop-requires c κs = (c .before .before .loop .inv .1, omega arith)
+
+add-x : tie.Need-add-x Inv-loop μ-loop
+add-x c = omega arith
+
+loop-less : tie.Need-loop-less Inv-loop μ-loop
+loop-less c = omega arith
+
+loop-again : tie.Need-loop-again Inv-loop μ-loop
+loop-again c =
+    let l = c .before .before .before .before .before in
+    let t₀ = l .before .before .args .t .now in
+    let f = stopped (l .before .before .args .flags) in
+    let whole = l .before .before .pre in
+    (omega arith, search needs, rw (c .before .before .make-stop .ensures, l .loop .inv .2) (up-to-next f (l .loop .x) t₀ whole))
+
+same-length : tie.Need-same-length Inv-loop μ-loop
+same-length c = search needs
+
+returns : tie.Need-returns Inv-loop μ-loop
+returns c = let e : c .before .loop .x ≡ 16 = omega arith in rw (c .before .loop .inv .2, e) (up-to-all _ _ (c .before .before .before .pre))
+
+pub stop-all-spec : {M : Type 1} → statement M
+stop-all-spec =
+    tie.close
+    (tie.spec
+    Inv-loop
+    μ-loop
+    loop-holds
+    make-stop-requires
+    add-x
+    loop-less
+    loop-again
+    same-length
+    returns)

@@ -1,0 +1,42 @@
+-- `commands::judging::judge_order` meets its contract. Assumes nothing.
+use mathlib.Core.Path.{sym, _∙_}
+use Rattle.commands.specs.Judging.{judge}
+use borrow.Author.Needs.{needs}
+use Rattle.commands.proofs.judging.judge_order.Statement.{statement}
+use Rattle.commands.proofs.judging.judge_order.Tie as tie
+
+needs-remote-requires : tie.Need-needs-remote-requires
+needs-remote-requires c κs = search needs
+
+mode-of-requires : tie.Need-mode-of-requires
+mode-of-requires c κs = search needs
+
+returns : tie.Need-returns
+unfolding judge
+returns c = rw (← c .before .before .needs-remote .ensures, ← c .before .mode-of .ensures, c .if1 .taken)
+
+value-in-range-requires : tie.Need-value-in-range-requires
+value-in-range-requires c κs = search needs
+
+judge-channel-requires : tie.Need-judge-channel-requires
+judge-channel-requires c κs = (c .before .before .before .before .before .before .pre .0, c .before .before .before .before .before .before .pre .1, sym (c .before .value-in-range .ensures) ∙ c .if2 .taken)
+
+returns-2 : tie.Need-returns-2
+unfolding judge
+returns-2 c = rw (← c .before .before .before .before .before .needs-remote .ensures, ← c .before .before .before .before .mode-of .ensures, c .before .before .before .if1 .left, ← c .before .before .value-in-range .ensures, c .before .if2 .taken, c .judge-channel .ensures)
+
+returns-3 : tie.Need-returns-3
+unfolding judge
+returns-3 c = rw (← c .before .before .before .before .needs-remote .ensures, ← c .before .before .before .mode-of .ensures, c .before .before .if1 .left, ← c .before .value-in-range .ensures, c .if2 .left)
+
+pub judge-order-spec : {M : Type 1} → statement M
+judge-order-spec =
+    tie.close
+    (tie.spec
+    needs-remote-requires
+    mode-of-requires
+    returns
+    value-in-range-requires
+    judge-channel-requires
+    returns-2
+    returns-3)

@@ -1,0 +1,4 @@
+pub mod Judging
+pub mod Changing
+pub mod Answers
+pub mod Computing

@@ -1,0 +1,97 @@
+// What an accepted order changes in the table.
+
+use crate::flags::clear_flag;
+use drive::change_speed;
+use drive::start;
+use drive::stop;
+use line::Order;
+use line::Setting;
+use line::Start;
+use orders::settings::course_of;
+use orders::settings::speed_written;
+use orders::settings::with_setting;
+use record::Motor;
+use table::head::set_all_reply;
+use table::head::set_errors;
+use table::head::set_mode;
+use table::motor_at;
+use table::put_motor;
+ghost use mathlib.Core.Path.{_≡_};
+ghost use mathlib.Core.Bool.{true};
+ghost use Prim.Native.Nat.{_≤_};
+ghost use lib.ListN.{length};
+ghost use Rattle.motor.specs.Sound.{isSpeed};
+ghost use Rattle.drive.specs.Drives.{started, stopped, speedChanged};
+ghost use Rattle.line.specs.Made.{orderMade};
+ghost use Rattle.orders.specs.Values.{startInRange, settingInRange, valueInRange};
+ghost use Rattle.orders.specs.Settings.{courseOf, withSetting};
+ghost use Rattle.table.specs.Layout.{tableSize, errors, motorAt, withMotor, withMotors};
+ghost use Rattle.commands.specs.Changing.{changed};
+
+// Starts a channel.
+fn make_start(t: &mut [u8], x: u8, s: Start)
+    requires { ⌜ (length (now t) ≡ tableSize) × (x ≤ 15) × (startInRange s ≡ true) ⌝ }
+    ensures { λ _. ⌜ now (t .exit) ≡ withMotor (now (t .entry)) x (started (motorAt (now (t .entry)) x) (courseOf (motorAt (now (t .entry)) x) s)) ⌝ }
+{
+    let m = motor_at(t, x);
+    put_motor(t, x, start(m, course_of(m, s)));
+}
+
+// Stops a channel; a stopped one stays as it is.
+fn make_stop(t: &mut [u8], x: u8, flags: u8)
+    requires { ⌜ (length (now t) ≡ tableSize) × (x ≤ 15) ⌝ }
+    ensures { λ _. ⌜ now (t .exit) ≡ withMotor (now (t .entry)) x (stopped flags (motorAt (now (t .entry)) x)) ⌝ }
+{
+    let m = motor_at(t, x);
+    put_motor(t, x, stop(m, flags));
+}
+
+// Stops every channel.
+fn stop_all(t: &mut [u8], flags: u8)
+    requires { ⌜ length (now t) ≡ tableSize ⌝ }
+    ensures { λ _. ⌜ now (t .exit) ≡ withMotors (now (t .entry)) (stopped flags) ⌝ }
+{
+    let mut x: u8 = 0;
+    while x < 16 {
+        make_stop(t, x, flags);
+        x += 1;
+    }
+}
+
+// Replaces the speed in force of a channel.
+fn make_speed(t: &mut [u8], x: u8, v: u64)
+    requires { ⌜ (length (now t) ≡ tableSize) × (x ≤ 15) × (isSpeed v ≡ true) ⌝ }
+    ensures { λ _. ⌜ now (t .exit) ≡ withMotor (now (t .entry)) x (speedChanged (motorAt (now (t .entry)) x) v) ⌝ }
+{
+    let m = motor_at(t, x);
+    put_motor(t, x, change_speed(m, speed_written(v)));
+}
+
+// Makes a setting of a channel.
+fn make_setting(t: &mut [u8], x: u8, s: Setting)
+    requires { ⌜ (length (now t) ≡ tableSize) × (x ≤ 15) × (settingInRange s ≡ true) ⌝ }
+    ensures { λ _. ⌜ now (t .exit) ≡ withMotor (now (t .entry)) x (withSetting (motorAt (now (t .entry)) x) s) ⌝ }
+{
+    let m = motor_at(t, x);
+    put_motor(t, x, with_setting(m, s));
+}
+
+// What an accepted order changes. Reads change nothing.
+pub fn change(t: &mut [u8], o: Order)
+    requires { ⌜ (length (now t) ≡ tableSize) × (orderMade o ≡ true) × (valueInRange o ≡ true) × (errors (now t) ≤ 15) ⌝ }
+    ensures { λ _. ⌜ now (t .exit) ≡ changed (now (t .entry)) o ⌝ }
+{
+    match o {
+        Order::Go(x, s) => make_start(t, x, s),
+        Order::Stop(x, flags) => make_stop(t, x, flags),
+        Order::StopAll(flags) => stop_all(t, flags),
+        Order::ChangeSpeed(x, v) => make_speed(t, x, v),
+        Order::Set(x, s) => make_setting(t, x, s),
+        Order::Ask(_, _) => {}
+        Order::Mode(k) => set_mode(t, k),
+        Order::AllReply(k) => set_all_reply(t, k),
+        Order::AskHead(_) => {}
+        Order::ClearErrors => set_errors(t, 0),
+        Order::ClearError(e) => clear_flag(t, e),
+    }
+}

@@ -1,0 +1,76 @@
+// How an order is judged on a sound table: local mode, the value, busy, and then what lies in the motor.
+
+use drive::Verdict;
+use drive::judge_speed_change;
+use drive::judge_start;
+use line::Order;
+use line::Start;
+use motor::is_driving;
+use orders::settings::course_of;
+use orders::values::needs_remote;
+use orders::values::value_in_range;
+use record::Motor;
+use table::head::mode_of;
+use table::motor_at;
+ghost use mathlib.Core.Path.{_≡_};
+ghost use mathlib.Core.Bool.{true, cond};
+ghost use lib.ListN.{length};
+ghost use Rattle.motor.specs.Sound.{driving};
+ghost use Rattle.drive.specs.declared.Verdict.the-variants.{Busy, Done};
+ghost use Rattle.drive.specs.Drives.{judgeStart};
+ghost use Rattle.line.specs.Made.{orderMade};
+ghost use Rattle.orders.specs.Values.{startInRange, valueInRange};
+ghost use Rattle.orders.specs.Settings.{courseOf};
+ghost use Rattle.table.specs.Layout.{tableSize, mode};
+ghost use Rattle.commands.specs.Judging.{busy, judgeMotor, judge};
+
+// A start: busy on a driving channel, else as the motor allows.
+fn judge_go(m: Motor, s: Start) -> Verdict
+    requires { ⌜ startInRange s ≡ true ⌝ }
+    ensures { λ r. ⌜ r ≡ cond (driving m) Busy (judgeStart m (courseOf m s)) ⌝ }
+{
+    if is_driving(m) {
+        Verdict::Busy
+    } else {
+        judge_start(m, course_of(m, s))
+    }
+}
+
+// A setting or a selection: busy on a driving channel.
+fn judge_set(m: Motor) -> Verdict
+    ensures { λ r. ⌜ r ≡ cond (driving m) Busy Done ⌝ }
+{
+    if is_driving(m) {
+        Verdict::Busy
+    } else {
+        Verdict::Done
+    }
+}
+
+// What is judged of the channel that an order names, if it names one.
+fn judge_channel(t: &[u8], o: Order) -> Verdict
+    requires { ⌜ (length (now t) ≡ tableSize) × (orderMade o ≡ true) × (valueInRange o ≡ true) ⌝ }
+    ensures { λ r. ⌜ r ≡ cond (busy (now (t .entry)) o) Busy (judgeMotor (now (t .entry)) o) ⌝ }
+{
+    match o {
+        Order::Go(x, s) => judge_go(motor_at(t, x), s),
+        Order::ChangeSpeed(x, _) => judge_speed_change(motor_at(t, x)),
+        Order::Set(x, _) => judge_set(motor_at(t, x)),
+        _ => Verdict::Done,
+    }
+}
+
+// The verdict of an order.
+pub fn judge_order(t: &[u8], o: Order) -> Verdict
+    requires { ⌜ (length (now t) ≡ tableSize) × (orderMade o ≡ true) ⌝ }
+    ensures { λ r. ⌜ r ≡ judge (now (t .entry)) o ⌝ }
+{
+    if needs_remote(o) & (mode_of(t) == 0) {
+        return Verdict::LocalMode;
+    }
+    if value_in_range(o) {
+        judge_channel(t, o)
+    } else {
+        Verdict::OutOfRange
+    }
+}

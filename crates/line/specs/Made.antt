@@ -1,0 +1,53 @@
+-- What every order of a line is, whatever the line: it names one of the sixteen channels, and its directions, speed numbers,
+-- end flags and head bytes are those that document 01 gives. That every order is so is proved (`order-made` in
+-- proofs/OrderLaws.antt); a function that takes an order may ask for it.
+use Prim.Native.Nat.{ℕ}
+use mathlib.Core.Bool.{Bool, true, _&&_, _||_}
+use lib.Dec.{eqb, leb}
+use Rattle.digits.specs.Places.{cw, ccw}
+use Rattle.line.specs.declared.Start.{Start}
+use Rattle.line.specs.declared.Start.the-variants.{Abs, Rel, Scan, Jog}
+use Rattle.line.specs.declared.Setting.{Setting}
+use Rattle.line.specs.declared.Setting.the-variants.{Preset, SetCwLimit, SetCcwLimit, Select, SetSpeed, SetSwitches, SetMotor}
+use Rattle.line.specs.declared.Order.{Order}
+use Rattle.line.specs.declared.Order.the-variants.{Go, Stop, StopAll, ChangeSpeed, Set, Ask, Mode, AllReply, AskHead, ClearErrors, ClearError}
+use Rattle.line.specs.Forms.{ssend, esend}
+
+-- one of the sixteen channels
+abbrev pub onBench : ℕ → Bool
+onBench x = leb x 15
+
+abbrev pub direction : ℕ → Bool
+direction going = eqb going cw || eqb going ccw
+
+abbrev pub endFlag : ℕ → Bool
+endFlag flags = eqb flags ssend || eqb flags esend
+
+abbrev pub startMade : Start → Bool
+startMade (Abs w) = true
+startMade (Rel w) = true
+startMade (Scan going) = direction going
+startMade (Jog going) = direction going
+
+abbrev pub settingMade : Setting → Bool
+settingMade (Preset w) = true
+settingMade (SetCwLimit w) = true
+settingMade (SetCcwLimit w) = true
+settingMade (Select k) = leb k 2
+settingMade (SetSpeed k v) = leb k 2
+settingMade (SetSwitches q r) = true
+settingMade (SetMotor q) = true
+
+-- an order as a line makes it
+unfoldable pub orderMade : Order → Bool
+orderMade (Go x s) = onBench x && startMade s
+orderMade (Stop x flags) = onBench x && endFlag flags
+orderMade (StopAll flags) = endFlag flags
+orderMade (ChangeSpeed x v) = onBench x
+orderMade (Set x s) = onBench x && settingMade s
+orderMade (Ask x q) = onBench x
+orderMade (Mode k) = leb k 1
+orderMade (AllReply k) = leb k 1
+orderMade (AskHead q) = true
+orderMade ClearErrors = true
+orderMade (ClearError e) = true

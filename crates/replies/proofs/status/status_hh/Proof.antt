@@ -1,0 +1,19 @@
+-- `replies::status::status_hh` meets its contract. Assumes nothing.
+use Rattle.replies.specs.Replies.{statusHH}
+use borrow.Author.Needs.{needs}
+use Rattle.replies.proofs.status.status_hh.Statement.{statement}
+use Rattle.replies.proofs.status.status_hh.Tie as tie
+
+is-driving-requires : tie.Need-is-driving-requires
+is-driving-requires c κs = search needs
+
+returns : tie.Need-returns
+unfolding statusHH
+returns c = rw (← c .before .is-driving .ensures, c .if1 .taken)
+
+returns-2 : tie.Need-returns-2
+unfolding statusHH
+returns-2 c = rw (← c .before .is-driving .ensures, c .if1 .left)
+
+pub status-hh-spec : {M : Type 1} → statement M
+status-hh-spec = tie.close (tie.spec is-driving-requires returns returns-2)

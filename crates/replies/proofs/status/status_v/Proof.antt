@@ -1,0 +1,27 @@
+-- `replies::status::status_v` meets its contract. Assumes nothing.
+use Rattle.replies.specs.Replies.{statusV}
+use native.Mathlib.Omega.{arith}
+use borrow.Author.Needs.{needs}
+use Rattle.replies.proofs.status.status_v.Statement.{statement}
+use Rattle.replies.proofs.status.status_v.Tie as tie
+
+switch-flags-requires : tie.Need-switch-flags-requires
+switch-flags-requires c κs = search needs
+
+is-driving-requires : tie.Need-is-driving-requires
+is-driving-requires c κs = search needs
+
+flag-if-requires : tie.Need-flag-if-requires
+flag-if-requires c κs = search needs
+
+add-result : tie.Need-add-result
+add-result c = search needs
+
+returns : tie.Need-returns
+unfolding statusV
+returns c = (rw (c .flag-if .ensures .0, c .before .before .is-driving .ensures, c .before .before .before .switch-flags .ensures .0), omega arith)
+
+pub status-v-spec : {M : Type 1} → statement M
+status-v-spec =
+    tie.close
+    (tie.spec switch-flags-requires is-driving-requires flag-if-requires add-result returns)

@@ -1,0 +1,186 @@
+-- `replies::write_question` meets its contract. Assumes nothing.
+use Rattle.line.specs.declared.Question.the-variants.{AskPosition, AskCwLimit, AskCcwLimit, AskSelected, AskSwitches, AskMotor, AskStatus}
+use Rattle.digits.proofs.TextLaws.{decimal-within, signed-within}
+use Rattle.replies.proofs.ReplyLaws.{question-within}
+use Rattle.replies.specs.Replies.{questionText}
+use native.Mathlib.Omega.{arith}
+use borrow.Author.Needs.{needs}
+use Rattle.replies.proofs.write_question.Statement.{statement}
+use Rattle.replies.proofs.write_question.Tie as tie
+
+enum-told : tie.Need-enum-told
+enum-told c = search needs
+
+write-signed-requires : tie.Need-write-signed-requires
+write-signed-requires c κs = omega (arith, signed-within 7 (c .before .before .before .before .before .before .args .m .place) (omega arith))
+
+enum-told-2 : tie.Need-enum-told-2
+enum-told-2 c = search needs
+
+write-signed-requires-2 : tie.Need-write-signed-requires-2
+write-signed-requires-2 c κs = omega (arith, signed-within 7 (c .before .before .before .before .before .before .args .m .limits .cw) (omega arith))
+
+enum-told-3 : tie.Need-enum-told-3
+enum-told-3 c = search needs
+
+write-signed-requires-3 : tie.Need-write-signed-requires-3
+write-signed-requires-3 c κs = omega (arith, signed-within 7 (c .before .before .before .before .before .before .args .m .limits .ccw) (omega arith))
+
+enum-told-4 : tie.Need-enum-told-4
+enum-told-4 c = search needs
+
+write-selected-requires : tie.Need-write-selected-requires
+write-selected-requires c κs = search needs
+
+enum-known-q : tie.Need-enum-known-q
+enum-known-q c = search needs
+
+speed-numbered-requires : tie.Need-speed-numbered-requires
+speed-numbered-requires c κs = search needs
+
+write-decimal-requires : tie.Need-write-decimal-requires
+write-decimal-requires c κs = omega (arith, decimal-within 6 (c .speed-numbered .result) (omega arith))
+
+enum-told-5 : tie.Need-enum-told-5
+enum-told-5 c = search needs
+
+write-switches-requires : tie.Need-write-switches-requires
+write-switches-requires c κs = search needs
+
+enum-told-6 : tie.Need-enum-told-6
+enum-told-6 c = search needs
+
+write-setup-requires : tie.Need-write-setup-requires
+write-setup-requires c κs = search needs
+
+enum-told-7 : tie.Need-enum-told-7
+enum-told-7 c = search needs
+
+write-status-requires : tie.Need-write-status-requires
+write-status-requires c κs = search needs
+
+same-length : tie.Need-same-length
+same-length c = search needs
+
+returns : tie.Need-returns
+unfolding questionText
+returns c =
+    let a = c .before .before .before .before .before .before .before .before .before .args in
+    let w = c .before .before .write-signed .ensures in
+    let q = c .before .before .before .before .enum-told .given .1 in
+    (rw q w, omega (arith, w .count, question-within (a .k) (a .x) (a .m) AskPosition))
+
+same-length-2 : tie.Need-same-length-2
+same-length-2 c = search needs
+
+returns-2 : tie.Need-returns-2
+unfolding questionText
+returns-2 c =
+    let a = c .before .before .before .before .before .before .before .before .before .args in
+    let w = c .before .before .write-signed2 .ensures in
+    let q = c .before .before .before .before .enum-told2 .given .1 in
+    (rw q w, omega (arith, w .count, question-within (a .k) (a .x) (a .m) AskCwLimit))
+
+same-length-3 : tie.Need-same-length-3
+same-length-3 c = search needs
+
+returns-3 : tie.Need-returns-3
+unfolding questionText
+returns-3 c =
+    let a = c .before .before .before .before .before .before .before .before .before .args in
+    let w = c .before .before .write-signed3 .ensures in
+    let q = c .before .before .before .before .enum-told3 .given .1 in
+    (rw q w, omega (arith, w .count, question-within (a .k) (a .x) (a .m) AskCcwLimit))
+
+same-length-4 : tie.Need-same-length-4
+same-length-4 c = search needs
+
+returns-4 : tie.Need-returns-4
+unfolding questionText
+returns-4 c =
+    let a = c .before .before .before .before .before .before .before .before .before .args in
+    let w = c .before .before .write-selected .ensures in
+    let q = c .before .before .before .before .enum-told4 .given .1 in
+    (rw q w, omega (arith, w .count, question-within (a .k) (a .x) (a .m) AskSelected))
+
+same-length-5 : tie.Need-same-length-5
+same-length-5 c = search needs
+
+returns-5 : tie.Need-returns-5
+unfolding questionText
+returns-5 c =
+    let w = c .before .before .write-decimal .ensures in
+    let q = c .before .before .before .before .before .before .q .given .1 in
+    let s = c .before .before .before .speed-numbered in
+    (rw (q, ← s .ensures) w, omega (arith, w .count, decimal-within 6 (s .result) (omega arith)))
+
+same-length-6 : tie.Need-same-length-6
+same-length-6 c = search needs
+
+returns-6 : tie.Need-returns-6
+unfolding questionText
+returns-6 c =
+    let a = c .before .before .before .before .before .before .before .before .before .args in
+    let w = c .before .before .write-switches .ensures in
+    let q = c .before .before .before .before .enum-told5 .given .1 in
+    (rw q w, omega (arith, w .count, question-within (a .k) (a .x) (a .m) AskSwitches))
+
+same-length-7 : tie.Need-same-length-7
+same-length-7 c = search needs
+
+returns-7 : tie.Need-returns-7
+unfolding questionText
+returns-7 c =
+    let a = c .before .before .before .before .before .before .before .before .before .args in
+    let w = c .before .before .write-setup .ensures in
+    let q = c .before .before .before .before .enum-told6 .given .1 in
+    (rw q w, omega (arith, w .count, question-within (a .k) (a .x) (a .m) AskMotor))
+
+same-length-8 : tie.Need-same-length-8
+same-length-8 c = search needs
+
+returns-8 : tie.Need-returns-8
+unfolding questionText
+returns-8 c =
+    let a = c .before .before .before .before .before .before .before .before .before .args in
+    let w = c .before .before .write-status .ensures in
+    let q = c .before .before .before .before .enum-told7 .given .1 in
+    (rw q w, omega (arith, w .count, question-within (a .k) (a .x) (a .m) AskStatus))
+
+pub write-question-spec : {M : Type 1} → statement M
+write-question-spec =
+    tie.close
+    (tie.spec
+    enum-told
+    write-signed-requires
+    enum-told-2
+    write-signed-requires-2
+    enum-told-3
+    write-signed-requires-3
+    enum-told-4
+    write-selected-requires
+    enum-known-q
+    speed-numbered-requires
+    write-decimal-requires
+    enum-told-5
+    write-switches-requires
+    enum-told-6
+    write-setup-requires
+    enum-told-7
+    write-status-requires
+    same-length
+    returns
+    same-length-2
+    returns-2
+    same-length-3
+    returns-3
+    same-length-4
+    returns-4
+    same-length-5
+    returns-5
+    same-length-6
+    returns-6
+    same-length-7
+    returns-7
+    same-length-8
+    returns-8)

@@ -1,0 +1,69 @@
+// Quoted texts, copied to the front of the buffer.
+
+use digits::is_set;
+use drive::Verdict;
+ghost use mathlib.Core.Path.{_≡_};
+ghost use Prim.Native.Nat.{_≤_};
+ghost use lib.ListN.{length};
+ghost use Rattle.digits.specs.Text.{Wrote};
+ghost use Rattle.line.specs.declared.HeadQuestion.the-variants.{AskAllReply};
+ghost use Rattle.replies.specs.Replies.{textOf, errorText, headText};
+
+// A quoted text: what is answered is how long it is.
+pub fn write_text(out: &mut [u8], text: &[u8]) -> usize
+    requires { ⌜ length (now text) ≤ length (now out) ⌝ }
+    ensures { λ r. ⌜ Wrote (now (out .entry)) (now (out .exit)) (now (text .entry)) r ⌝ }
+{
+    let mut i: usize = 0;
+    while i < text.len() {
+        out[i] = text[i];
+        i += 1;
+    }
+    i
+}
+
+// The text of a verdict, if it has one: the causes of number 4 share theirs.
+pub fn write_verdict(out: &mut [u8], v: Verdict) -> usize
+    requires { ⌜ 32 ≤ length (now out) ⌝ }
+    ensures { λ r. ⌜ Wrote (now (out .entry)) (now (out .exit)) (textOf v) r ⌝ }
+{
+    match v {
+        Verdict::Done => write_text(out, b"OK"),
+        Verdict::NoForm => write_text(out, b"COMMAND ERROR"),
+        Verdict::Busy => write_text(out, b"MCC06 BUSY ERROR"),
+        Verdict::OutOfRange => write_text(out, b"PARAMETER ERROR"),
+        Verdict::WrongSize => 0,
+        Verdict::NotSound => 0,
+        _ => write_text(out, b"NG"),
+    }
+}
+
+// The text of the lowest error whose flag is set.
+pub fn write_error(out: &mut [u8], flags: u8) -> usize
+    requires { ⌜ 32 ≤ length (now out) ⌝ }
+    ensures { λ r. ⌜ Wrote (now (out .entry)) (now (out .exit)) (errorText flags) r ⌝ }
+{
+    if is_set(0, flags) {
+        write_text(out, b"COMMAND ERROR")
+    } else if is_set(1, flags) {
+        write_text(out, b"MCC06 BUSY ERROR")
+    } else if is_set(2, flags) {
+        write_text(out, b"PARAMETER ERROR")
+    } else if is_set(3, flags) {
+        write_text(out, b"OTHER ERROR")
+    } else {
+        write_text(out, b"NO ERROR")
+    }
+}
+
+// Whether all-reply is on.
+pub fn write_all_reply(out: &mut [u8], all: u8) -> usize
+    requires { ⌜ 32 ≤ length (now out) ⌝ }
+    ensures { λ r. ⌜ Wrote (now (out .entry)) (now (out .exit)) (headText all 0 AskAllReply) r ⌝ }
+{
+    if all == 1 {
+        write_text(out, b"EN")
+    } else {
+        write_text(out, b"DS")
+    }
+}

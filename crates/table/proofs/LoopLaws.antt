@@ -1,0 +1,93 @@
+-- What the loops over the head and over the records have done after k turns. Assumes nothing.
+use mathlib.Core.Path.{_≡_, refl, sym, _∙_}
+use mathlib.Core.List.{List, _++_}
+use mathlib.Core.Bool.{Bool, true, _&&_}
+use Prim.Native.Nat.{ℕ, _+_, _*_, _-_, _≤_, _<_}
+use native.Mathlib.Nat.{zero-add}
+use native.Mathlib.Numerals.{add-one}
+use native.Mathlib.Omega.{arith}
+use lib.ListN.{length, drop, replicate, length-append, length-replicate, replicate-append-replicate}
+use lib.Dec.{eqb}
+use lib.Seq.{drop-drop}
+use Rattle.digits.specs.Bytes.{part, put, pieces, every, gather, allZero}
+use Rattle.digits.specs.Words.{word, wordBytes}
+use Rattle.digits.proofs.PartLaws.{part-add, zero-append}
+use Rattle.digits.proofs.PutLaws.{put-after, put-none, put-whole}
+use Rattle.digits.proofs.WordLaws.{word-zero}
+use Rattle.record.specs.Record.{recordOf, freshMotor}
+use Rattle.record.proofs.RoundTrip.{record-length}
+use Rattle.motor.specs.Sound.{soundRecord}
+use Rattle.table.specs.Layout.{tableSize, recordAt, withMotor, freshTable}
+use Rattle.table.proofs.PieceLaws.{every-more, gather-length}
+
+-- the bytes from 3 on are zero, up to the word of four bytes with the number k
+unfoldable pub zeroTo : List ℕ → ℕ → Bool
+zeroTo t k = allZero (part t 3 (4 * k - 3))
+
+pub zero-first : (t : List ℕ) → zeroTo t 1 ≡ eqb (word (part t 3 1)) 0
+unfolding zeroTo
+zero-first t = sym (word-zero (part t 3 1))
+
+pub zero-next : (t : List ℕ) (k : ℕ) → 1 ≤ k → zeroTo t (k + 1) ≡ (zeroTo t k && eqb (word (part t (4 * k) 4)) 0)
+unfolding zeroTo
+zero-next t k h =
+    let n : 4 * (k + 1) - 3 ≡ 4 * k - 3 + 4 = omega arith in
+    let at : 3 + (4 * k - 3) ≡ 4 * k = omega arith in
+    rw (n, part-add t 3 (4 * k - 3) 4, zero-append, at, word-zero (part t (4 * k) 4))
+
+-- the first k words of four bytes zeroed
+unfoldable pub zeroedTo : List ℕ → ℕ → List ℕ
+zeroedTo t k = put t 0 (replicate (4 * k) 0)
+
+pub zeroed-none : (t : List ℕ) → zeroedTo t 0 ≡ t
+unfolding zeroedTo
+zeroed-none t = put-none t 0
+
+pub zeroed-next : (t : List ℕ) (k : ℕ) → length t ≡ tableSize → k < 16
+    → put (zeroedTo t k) (4 * k) (wordBytes 4 0) ≡ zeroedTo t (k + 1)
+unfolding zeroedTo wordBytes
+zeroed-next t k e h =
+    let x : List ℕ = replicate (4 * k) 0 in
+    let n : length x ≡ 4 * k = length-replicate (4 * k) 0 in
+    let more : 4 * (k + 1) ≡ 4 * k + 4 = omega arith in
+    let step : put (put t 0 x) (0 + length x) (wordBytes 4 0) ≡ put t 0 (x ++ wordBytes 4 0) =
+    put-after t x (wordBytes 4 0) 0 (omega arith) in
+    rw (more, ← replicate-append-replicate {A = ℕ} (4 * k) 4 0) (rw (zero-add, n) at step)
+
+-- the first k records are sound
+unfoldable pub soundTo : List ℕ → ℕ → Bool
+soundTo t k = every soundRecord (pieces 64 k (drop 64 t))
+
+pub sound-none : (t : List ℕ) → soundTo t 0 ≡ true
+unfolding soundTo every pieces
+sound-none t = refl
+
+pub sound-next : (t : List ℕ) (k : ℕ) → soundTo t (k + 1) ≡ (soundTo t k && soundRecord (recordAt t k))
+unfolding soundTo part
+sound-next t k = rw (add-one k, every-more soundRecord 64 k (drop 64 t), drop-drop)
+
+-- the first k records made fresh
+unfoldable pub freshTo : List ℕ → ℕ → List ℕ
+freshTo t k = put t 64 (gather (λ c. recordOf freshMotor) k)
+
+pub fresh-none : (t : List ℕ) → freshTo t 0 ≡ t
+unfolding freshTo gather
+fresh-none t = put-none t 64
+
+fresh-size : (k : ℕ) → length (gather (λ c. recordOf freshMotor) k) ≡ 64 * k
+fresh-size k = gather-length (λ c. recordOf freshMotor) 64 k (λ c. record-length freshMotor)
+
+pub fresh-next : (t : List ℕ) (k : ℕ) → length t ≡ tableSize → k < 16 → withMotor (freshTo t k) k freshMotor ≡ freshTo t (k + 1)
+unfolding freshTo withMotor gather
+fresh-next t k e h =
+    let n = fresh-size k in
+    rw (add-one k, ← n) (put-after t (gather (λ c. recordOf freshMotor) k) (recordOf freshMotor) 64 (omega arith))
+
+-- The head zeroed and all records fresh are a fresh table.
+pub fresh-all : (t : List ℕ) → length t ≡ tableSize → freshTo (put t 0 (replicate 64 0)) 16 ≡ freshTable
+unfolding freshTo freshTable
+fresh-all t e =
+    let x : List ℕ = replicate 64 0 in
+    let y = gather (λ c. recordOf freshMotor) 16 in
+    let n = fresh-size 16 in
+    put-after t x y 0 (omega arith) ∙ put-whole t (x ++ y) (rw length-append (omega arith))

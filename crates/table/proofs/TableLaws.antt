@@ -1,0 +1,121 @@
+-- Laws of the table that the crates above go by: its length, the motors of the first channels changed, and sound tables.
+-- Assumes nothing.
+use mathlib.Core.Path.{_≡_, _∙_}
+use mathlib.Core.List.{List, [], _∷_, _++_, append-assoc, append-nil, flatMap}
+use mathlib.Core.Bool.{true, _&&_}
+use Prim.Native.Nat.{ℕ, suc, _+_, _*_, _≤_}
+use native.Mathlib.Numerals.{add-one}
+use native.Mathlib.Omega.{arith}
+use lib.ListN.{length, take, drop, length-append, length-take, length-drop, take-append-drop, drop-of-length-le}
+use lib.Dec.{eqb}
+use lib.Seq.{drop-drop, drop-at}
+use borrow.Author.Tests.{eqb-true}
+use Rattle.digits.specs.Bytes.{part, pieces, every}
+use Rattle.digits.proofs.PutLaws.{put-length}
+use Rattle.record.specs.declared.Motor.{Motor}
+use Rattle.record.specs.Record.{motorOf, recordOf, freshMotor}
+use Rattle.record.proofs.RoundTrip.{record-length}
+use Rattle.motor.specs.Sound.{soundMotor, soundRecord}
+use Rattle.motor.proofs.SoundLaws.{and-l, and-r}
+use Rattle.motor.proofs.RecordLaws.{record-motor-sound}
+use Rattle.table.specs.Layout.{tableSize, withMode, withAllReply, withErrors, recordStart, recordAt, records, motorAt, withMotor, withMotors, freshTable}
+use Rattle.table.specs.Sound.{soundHead, soundTable}
+use Rattle.table.proofs.PieceLaws.{every-each, flat-more, flat-length, gather-length, put-next}
+
+-- A write into the table keeps its length.
+pub mode-length : (t : List ℕ) (k : ℕ) → length t ≡ tableSize → length (withMode t k) ≡ tableSize
+mode-length t k e = put-length t 0 (k ∷ []) (omega arith) ∙ e
+
+pub reply-length : (t : List ℕ) (k : ℕ) → length t ≡ tableSize → length (withAllReply t k) ≡ tableSize
+reply-length t k e = put-length t 1 (k ∷ []) (omega arith) ∙ e
+
+pub errors-length : (t : List ℕ) (k : ℕ) → length t ≡ tableSize → length (withErrors t k) ≡ tableSize
+errors-length t k e = put-length t 2 (k ∷ []) (omega arith) ∙ e
+
+pub motor-length : (t : List ℕ) (c : ℕ) (m : Motor) → length t ≡ tableSize → c ≤ 15 → length (withMotor t c m) ≡ tableSize
+unfolding withMotor
+motor-length t c m e h = let n = record-length m in put-length t (recordStart c) (recordOf m) (omega arith) ∙ e
+
+pub fresh-length : length freshTable ≡ tableSize
+unfolding freshTable
+fresh-length = rw (length-append, gather-length (λ c. recordOf freshMotor) 64 16 (λ c. record-length freshMotor))
+
+-- the records of the first k motors changed by f
+unfoldable pub changed : (Motor → Motor) → ℕ → List ℕ → List ℕ
+changed f k t = flatMap (λ r. recordOf (f (motorOf r))) (pieces 64 k (drop 64 t))
+
+-- the table with the motors of the first k channels changed by f, and every other byte as it was
+unfoldable pub upTo : (Motor → Motor) → ℕ → List ℕ → List ℕ
+upTo f k t = take 64 t ++ (changed f k t ++ drop (recordStart k) t)
+
+changed-length : (f : Motor → Motor) (k : ℕ) (t : List ℕ) → length (changed f k t) ≡ 64 * k
+unfolding changed
+changed-length f k t = flat-length (λ r. recordOf (f (motorOf r))) 64 64 k (drop 64 t) (λ r. record-length (f (motorOf r)))
+
+-- What is made of each motor, one after the other, with one motor more.
+pub flat-motors : (g : Motor → List ℕ) (t : List ℕ) (k : ℕ)
+    → flatMap (λ r. g (motorOf r)) (pieces 64 (suc k) (drop 64 t))
+    ≡ flatMap (λ r. g (motorOf r)) (pieces 64 k (drop 64 t)) ++ g (motorAt t k)
+unfolding motorAt part
+flat-motors g t k = flat-more (λ r. g (motorOf r)) 64 k (drop 64 t) ∙ rw drop-drop
+
+changed-next : (f : Motor → Motor) (k : ℕ) (t : List ℕ) → changed f (k + 1) t ≡ changed f k t ++ recordOf (f (motorAt t k))
+unfolding changed
+changed-next f k t = rw add-one (flat-motors (λ m. recordOf (f m)) t k)
+
+-- No motor changed.
+pub up-to-none : (f : Motor → Motor) (t : List ℕ) → upTo f 0 t ≡ t
+unfolding upTo changed flatMap pieces
+up-to-none f t = take-append-drop 64 t
+
+module _ (f : Motor → Motor) (k : ℕ) (t : List ℕ) (whole : length t ≡ tableSize) where
+  -- the head and the records that were changed
+  front : length (take 64 t ++ changed f k t) ≡ recordStart k
+  front = let n = changed-length f k t in rw (length-append, length-take) (omega arith)
+
+  pub up-to-length : k ≤ 16 → length (upTo f k t) ≡ tableSize
+  unfolding upTo
+  up-to-length h = let n = changed-length f k t in simp (length-append, length-take, length-drop) (omega arith)
+
+  rest : drop (recordStart k) (upTo f k t) ≡ drop (recordStart k) t
+  unfolding upTo
+  rest = rw (← append-assoc (take 64 t) (changed f k t) (drop (recordStart k) t)) (drop-at (take 64 t ++ changed f k t) (drop (recordStart k) t) (recordStart k) front)
+
+  -- The motor of the next channel is the table's own.
+  pub up-to-motor : motorAt (upTo f k t) k ≡ motorAt t k
+  unfolding motorAt part
+  up-to-motor = rw rest
+
+  -- The next motor written is one motor more changed.
+  pub up-to-next : withMotor (upTo f k t) k (f (motorAt (upTo f k t) k)) ≡ upTo f (k + 1) t
+  unfolding withMotor upTo
+  up-to-next =
+      let b = recordOf (f (motorAt t k)) in
+      let d = drop (recordStart k) t in
+      let p = take 64 t ++ changed f k t in
+      let next : recordStart (k + 1) ≡ recordStart k + 64 = omega arith in
+      rw (up-to-motor, ← append-assoc (take 64 t) (changed f k t) d, put-next p d b (recordStart k) front, record-length (f (motorAt t k)), drop-drop 64 (recordStart k) t, next, changed-next f k t)
+      (simp append-assoc)
+
+-- All sixteen motors changed.
+pub up-to-all : (f : Motor → Motor) (t : List ℕ) → length t ≡ tableSize → upTo f 16 t ≡ withMotors t f
+unfolding upTo changed withMotors
+up-to-all f t e = rw (drop-of-length-le t {i = 1088} (omega arith), append-nil)
+
+pub motors-length : (f : Motor → Motor) (t : List ℕ) → length t ≡ tableSize → length (withMotors t f) ≡ tableSize
+motors-length f t e = rw (← up-to-all f t e) (up-to-length f 16 t e (omega arith))
+
+-- A sound table has a table's length, and its motors are sound.
+pub sound-length : (t : List ℕ) → soundTable t ≡ true → length t ≡ tableSize
+unfolding soundTable
+sound-length t s = eqb-true (length t) tableSize (and-l _ (soundHead t) (and-l _ (every soundRecord (records t)) s))
+
+pub sound-record-at : (t : List ℕ) (c : ℕ) → soundTable t ≡ true → c ≤ 15 → soundRecord (recordAt t c) ≡ true
+unfolding soundTable part
+sound-record-at t c s h =
+    let all = and-r (eqb (length t) tableSize && soundHead t) (every soundRecord (records t)) s in
+    rw (← drop-drop (64 * c) 64 t) (every-each soundRecord 64 16 (drop 64 t) c all (omega arith))
+
+pub sound-motor-at : (t : List ℕ) (c : ℕ) → soundTable t ≡ true → c ≤ 15 → soundMotor (motorAt t c) ≡ true
+unfolding motorAt
+sound-motor-at t c s h = record-motor-sound (recordAt t c) (sound-record-at t c s h)

@@ -1,0 +1,26 @@
+-- `table::head::sound_head` meets its contract. Assumes nothing.
+use borrow.Author.Needs.{needs}
+use Rattle.table.specs.Sound.{soundHead}
+use Rattle.table.proofs.head.sound_head.Statement.{statement}
+use Rattle.table.proofs.head.sound_head.Tie as tie
+
+mode-of-requires : tie.Need-mode-of-requires
+mode-of-requires c κs = search needs
+
+all-reply-of-requires : tie.Need-all-reply-of-requires
+all-reply-of-requires c κs = search needs
+
+errors-of-requires : tie.Need-errors-of-requires
+errors-of-requires c κs = search needs
+
+head-zero-requires : tie.Need-head-zero-requires
+head-zero-requires c κs = search needs
+
+returns : tie.Need-returns
+unfolding soundHead
+returns c = rw (c .head-zero .ensures, c .before .errors-of .ensures, c .before .before .all-reply-of .ensures, c .before .before .before .mode-of .ensures)
+
+pub sound-head-spec : {M : Type 1} → statement M
+sound-head-spec =
+    tie.close
+    (tie.spec mode-of-requires all-reply-of-requires errors-of-requires head-zero-requires returns)

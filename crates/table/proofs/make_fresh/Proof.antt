@@ -1,0 +1,24 @@
+-- `table::make_fresh` meets its contract. Assumes nothing.
+use borrow.Author.Needs.{needs}
+use Rattle.table.proofs.LoopLaws.{freshTo, fresh-all}
+use Rattle.table.proofs.make_fresh.Statement.{statement}
+use Rattle.table.proofs.make_fresh.Tie as tie
+
+zero-head-requires : tie.Need-zero-head-requires
+zero-head-requires c κs = search needs
+
+fresh-records-requires : tie.Need-fresh-records-requires
+fresh-records-requires c κs = search needs
+
+same-length : tie.Need-same-length
+same-length c = search needs
+
+returns : tie.Need-returns
+unfolding freshTo
+returns c =
+    let t = c .before .before .before .before .before .before .before .before .before .args .t .now in
+    rw (c .before .before .fresh-records .ensures, c .before .before .before .before .before .before .zero-head .ensures) (fresh-all t (search needs))
+
+pub make-fresh-spec : {M : Type 1} → statement M
+make-fresh-spec =
+    tie.close (tie.spec zero-head-requires fresh-records-requires same-length returns)
