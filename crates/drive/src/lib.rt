@@ -79,7 +79,7 @@ fn with_drive(m: Motor, ended: u8, d: Drive) -> Motor
 }
 
 // One of LSPD, MSPD and HSPD, by its number.
-fn speed_numbered(k: u8, s: Speeds) -> u32
+pub fn speed_numbered(k: u8, s: Speeds) -> u32
     ensures { λ r. ⌜ r ≡ speedNumbered k s ⌝ }
 {
     choose(k == 0, s.low, choose(k == 1, s.middle, s.high))

@@ -22,7 +22,7 @@ use Rattle.line.specs.declared.Parsed.{Parsed}
 use Rattle.line.specs.declared.Parsed.the-variants.{Is, Nothing}
 use Rattle.line.specs.Shapes.{gotIf, withChannel, withWritten, withFirst, withSecond, byteAt, digitAt, fourOf, numbered, noFields, onward, readChannel, readNumber, readSigned, readDigit, readQuestion, readLetters, readFour, readZeroThree, readField, readFields}
 use Rattle.line.specs.Forms.{Row, forms, complete, fieldsAsRow, asRow, firstOf, firstForm, orderOf}
-use Rattle.line.specs.Made.{orderMade}
+use Rattle.line.specs.Made.{orderMade, parsedMade}
 use Rattle.line.specs.Computing.{computing-line}
 
 -- the channel among the fields that were read
@@ -95,14 +95,9 @@ rows-made : (f : Fields) → leb (f .channel) 15 ≡ true → everyRow (λ r. or
 unfolding computing-line everyRow orderMade
 rows-made f h = rw h
 
--- what was read is such an order, if it is one
-parsedMade : Parsed → Bool
-parsedMade (Is o) = orderMade o
-parsedMade Nothing = true
-
 complete-made : (o : Fields → Order) (s : List ℕ) (t : Got) → ((f : Fields) → leb (f .channel) 15 ≡ true → orderMade (o f) ≡ true) → channelOf t ≤ 15
     → parsedMade (complete o s t) ≡ true
-unfolding channelOf parsedMade
+unfolding channelOf
 complete-made o s (Here f at) made h = go (eqb at (length s))
   where
     go : (t : Bool) → parsedMade (cond t (Is (o f)) Nothing) ≡ true
@@ -111,7 +106,7 @@ complete-made o s (Here f at) made h = go (eqb at (length s))
 complete-made o s Absent made h = refl
 
 row-made : (r : Row) (s : List ℕ) → ((f : Fields) → leb (f .channel) 15 ≡ true → orderMade (r .order f) ≡ true) → parsedMade (asRow r s) ≡ true
-unfolding asRow fieldsAsRow parsedMade
+unfolding asRow fieldsAsRow
 row-made r s made = go (same (take (length (r .word)) s) (r .word))
   where
     n : ℕ
@@ -123,7 +118,7 @@ row-made r s made = go (same (take (length (r .word)) s) (r .word))
 
 first-made : (rs : List Row) (s : List ℕ) → ((f : Fields) → leb (f .channel) 15 ≡ true → everyRow (λ r. orderMade (r .order f)) rs ≡ true)
     → parsedMade (firstForm rs s) ≡ true
-unfolding firstForm everyRow parsedMade
+unfolding firstForm everyRow
 first-made [] s made = refl
 first-made (r ∷ rs) s made =
     go (asRow r s) (row-made r s (λ f h. both f h .0)) (first-made rs s (λ f h. both f h .1))
@@ -135,15 +130,11 @@ first-made (r ∷ rs) s made =
     go (Is o) p q = p
     go Nothing p q = q
 
-line-made : (s : List ℕ) → parsedMade (orderOf s) ≡ true
-unfolding orderOf parsedMade
+-- What a line is, is such an order, or nothing.
+pub line-made : (s : List ℕ) → parsedMade (orderOf s) ≡ true
+unfolding orderOf
 line-made s = go (leb (length s) 80)
   where
     go : (t : Bool) → parsedMade (cond t (firstForm forms s) Nothing) ≡ true
     go true = first-made forms s rows-made
     go false = refl
-
--- Every order that a line is, is such an order.
-pub order-made : (s : List ℕ) (o : Order) → orderOf s ≡ Is o → orderMade o ≡ true
-unfolding parsedMade
-order-made s o e = rw e at (line-made s)

@@ -1,5 +1,5 @@
 -- What every order of a line is, whatever the line: it names one of the sixteen channels, and its directions, speed numbers,
--- end flags and head bytes are those that document 01 gives. That every order is so is proved (`order-made` in
+-- end flags and head bytes are those that document 01 gives. That every order is so is proved (`line-made` in
 -- proofs/OrderLaws.antt); a function that takes an order may ask for it.
 use Prim.Native.Nat.{ℕ}
 use mathlib.Core.Bool.{Bool, true, _&&_, _||_}
@@ -11,6 +11,8 @@ use Rattle.line.specs.declared.Setting.{Setting}
 use Rattle.line.specs.declared.Setting.the-variants.{Preset, SetCwLimit, SetCcwLimit, Select, SetSpeed, SetSwitches, SetMotor}
 use Rattle.line.specs.declared.Order.{Order}
 use Rattle.line.specs.declared.Order.the-variants.{Go, Stop, StopAll, ChangeSpeed, Set, Ask, Mode, AllReply, AskHead, ClearErrors, ClearError}
+use Rattle.line.specs.declared.Parsed.{Parsed}
+use Rattle.line.specs.declared.Parsed.the-variants.{Is, Nothing}
 use Rattle.line.specs.Forms.{ssend, esend}
 
 -- one of the sixteen channels
@@ -51,3 +53,8 @@ orderMade (AllReply k) = leb k 1
 orderMade (AskHead q) = true
 orderMade ClearErrors = true
 orderMade (ClearError e) = true
+
+-- what a line is: such an order, or nothing
+abbrev pub parsedMade : Parsed → Bool
+parsedMade (Is o) = orderMade o
+parsedMade Nothing = true

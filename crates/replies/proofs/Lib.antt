@@ -1,1 +1,2 @@
+pub mod Cases
 pub mod ReplyLaws

@@ -4,7 +4,6 @@ pub mod settings;
 pub mod status;
 pub mod texts;
 
-use crate::settings::speed_numbered;
 use crate::settings::write_selected;
 use crate::settings::write_setup;
 use crate::settings::write_switches;
@@ -16,6 +15,7 @@ use digits::decimal::write_decimal;
 use digits::decimal::write_signed;
 use digits::hex::write_hex;
 use drive::Verdict;
+use drive::speed_numbered;
 use line::HeadQuestion;
 use line::Question;
 use record::Motor;

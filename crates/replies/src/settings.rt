@@ -1,24 +1,14 @@
-// The settings of a motor: its speeds, and its SETLS and SETMT digits one by one.
+// The settings of a motor: the name of its selected speed, and its SETLS and SETMT digits one by one.
 
 use crate::texts::write_text;
-use digits::choose;
 use record::Setup;
-use record::Speeds;
 ghost use mathlib.Core.Path.{_≡_};
 ghost use mathlib.Core.Bool.{true};
 ghost use Prim.Native.Nat.{_≤_};
 ghost use lib.ListN.{length};
 ghost use Rattle.digits.specs.Text.{Wrote};
 ghost use Rattle.motor.specs.Sound.{setupInRange};
-ghost use Rattle.drive.specs.Drives.{speedNumbered};
 ghost use Rattle.replies.specs.Replies.{selectedText, switchesText, motorText};
-
-// One of LSPD, MSPD and HSPD, by its number.
-pub fn speed_numbered(k: u8, s: Speeds) -> u32
-    ensures { λ r. ⌜ r ≡ speedNumbered k s ⌝ }
-{
-    choose(k == 0, s.low, choose(k == 1, s.middle, s.high))
-}
 
 // The name of the selected speed.
 pub fn write_selected(out: &mut [u8], k: u8) -> usize

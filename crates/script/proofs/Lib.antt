@@ -1,1 +1,6 @@
 pub mod Cases
+pub mod JobLaws
+pub mod OutLaws
+pub mod NetLaws
+pub mod Streaming
+pub mod TickBounds

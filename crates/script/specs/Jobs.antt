@@ -25,18 +25,24 @@ linesOf (b ∷ s) = cond (eqb b (code "\n")) ([] ∷ linesOf s) (joined b (lines
 abbrev pub jobIf : Bool → Job → Job
 jobIf test j = cond test j Unknown
 
+-- "contacts 0..7": a byte is the digit of some
+abbrev pub isContacts : ℕ → Bool
+isContacts b = isDigit b && leb (digitValue b) 7
+
 -- "`S x n` (x as above, contacts 0..7)": after `S ` come x, a blank, and one digit
 unfoldable pub touchOf : List ℕ → Job
 touchOf s =
-    jobIf (eqb (length s) 3 && isHex (getD s 0 0) && eqb (getD s 1 0) (code " ")
-    && (isDigit (getD s 2 0) && leb (digitValue (getD s 2 0)) 7))
+    jobIf (eqb (length s) 3 && isHex (getD s 0 0) && eqb (getD s 1 0) (code " ") && isContacts (getD s 2 0))
     (Touch (hexValue (getD s 0 0)) (digitValue (getD s 2 0)))
+
+-- "1..10000 ticks, no leading zeros": a number is one of ticks, by the byte that it starts with and what it is worth
+abbrev pub isTicks : ℕ → ℕ → Bool
+isTicks first n = not (eqb first (code "0")) && leb n 10000
 
 -- "`T n` (1..10000 ticks, no leading zeros)": after `T ` come digits and nothing else
 unfoldable pub waitOf : List ℕ → Job
 waitOf s =
-    jobIf (leb 1 (length s) && leb (length s) 5 && eqb (digitsAtFront s) (length s)
-    && (not (eqb (getD s 0 0) (code "0")) && leb (valueOf s) 10000))
+    jobIf (leb 1 (length s) && leb (length s) 5 && eqb (digitsAtFront s) (length s) && isTicks (getD s 0 0) (valueOf s))
     (Wait (valueOf s))
 
 -- "`C line`, `S x n`, `T n`": by the letter, with what comes after it and its blank

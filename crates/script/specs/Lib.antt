@@ -1,3 +1,5 @@
 pub mod Jobs
 pub mod Output
+pub mod Bounds
+pub mod Stream
 pub mod Computing

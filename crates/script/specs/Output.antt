@@ -11,7 +11,7 @@ use Rattle.digits.specs.Words.{word}
 use Rattle.digits.specs.Places.{origin, placeOf}
 use Rattle.digits.specs.Text.{bytes, decimal, signedDecimal, hexDigit}
 use Rattle.table.specs.Layout.{tableSize}
-use Rattle.urqolina.specs.Calls.{CommandAfter, freshCall, commandCall, readingCall, tickCall}
+use Rattle.urqolina.specs.Calls.{freshCall, commandCall, readingCall, tickCall}
 use Rattle.script.specs.declared.Job.{Job}
 use Rattle.script.specs.declared.Job.the-variants.{Send, Touch, Wait, Unknown}
 use Rattle.script.specs.Jobs.{linesOf, jobOf}
@@ -35,14 +35,14 @@ replyText [] = bytes "-"
 replyText (b ∷ s) = b ∷ s
 
 -- "the number, then for C a space and the reply or `-`": the result is the number plus 256 times the reply's length
-unfoldable pub commandText : CommandAfter → List ℕ
-commandText r = plainText (r .result % 256) ++ (code " " ∷ replyText (take (r .result / 256) (r .reply)))
+unfoldable pub commandText : ℕ → List ℕ → List ℕ
+commandText result reply = plainText (result % 256) ++ (code " " ∷ replyText (take (result / 256) reply))
 
 -- C: the command call, with a reply buffer of 32 bytes
 unfoldable pub sent : List ℕ → List ℕ → Printed
 sent t line =
     let r = commandCall t line (replicate 32 0) in
-    record { table = r .table; text = commandText r }
+    record { table = r .table; text = commandText (r .result) (r .reply) }
 
 -- S: the reading call, and its number
 unfoldable pub touched : List ℕ → ℕ → ℕ → Printed
@@ -74,18 +74,22 @@ waited zero w = w
 waited (suc n) w = waited n (tickOf w)
 
 -- "per channel with a nonzero net, a space, x, colon, signed net"
-unfoldable pub netText : List ℕ → ℕ → List ℕ
-netText nets c = cond (eqb (getD nets c origin) origin) [] (code " " ∷ hexDigit c ∷ code ":" ∷ signedText (getD nets c origin))
+unfoldable pub netText : ℕ → ℕ → List ℕ
+netText c net = cond (eqb net origin) [] (code " " ∷ hexDigit c ∷ code ":" ∷ signedText net)
 
--- the number, and the nets in the channels' order
-unfoldable pub waitedText : Waited → List ℕ
-waitedText w = plainText (w .result) ++ gather (netText (w .nets)) 16
+-- the nets of the first k channels, in the channels' order
+abbrev pub netTexts : List ℕ → ℕ → List ℕ
+netTexts nets k = gather (λ c. netText c (getD nets c origin)) k
+
+-- the number, and the nets of all the channels
+unfoldable pub waitedText : ℕ → List ℕ → List ℕ
+waitedText result nets = plainText result ++ netTexts nets 16
 
 -- T: n ticks
 unfoldable pub ticked : List ℕ → ℕ → Printed
 ticked t n =
     let w = waited n (record { result = 0; table = t; nets = replicate 16 origin }) in
-    record { table = w .table; text = waitedText w }
+    record { table = w .table; text = waitedText (w .result) (w .nets) }
 
 -- one line of the script; "Any other line prints `?`"
 abbrev pub jobDone : List ℕ → List ℕ → Job → Printed

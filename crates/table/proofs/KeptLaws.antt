@@ -69,14 +69,36 @@ pub sound-head-of : (t : List ℕ) → soundTable t ≡ true → soundHead t ≡
 unfolding soundTable
 sound-head-of t s = and-r (eqb (length t) tableSize) _ (and-l _ (every soundRecord (records t)) s)
 
+-- a sound head in its parts
+pub record HeadParts (t : List ℕ) : Type 0 where
+  pub mode : mode t ≤ 1
+  pub reply : allReply t ≤ 1
+  pub errors : errors t ≤ 15
+  pub zeros : allZero (part t 3 61) ≡ true
+
+-- A sound head is sound in its parts, and the other way round.
+pub head-parts : (t : List ℕ) → soundHead t ≡ true → HeadParts t
+unfolding soundHead
+head-parts t e = search (and-l, and-r, leb-true)
+
+pub parts-head : (t : List ℕ) → HeadParts t → soundHead t ≡ true
+unfolding soundHead
+parts-head t p = cc (le-leb _ _ (p .mode), le-leb _ _ (p .reply), le-leb _ _ (p .errors))
+
 -- A sound motor written into a sound table leaves it sound.
 pub motor-sound : (t : List ℕ) (c : ℕ) (m : Motor) → soundTable t ≡ true → c ≤ 15 → soundMotor m ≡ true
     → soundTable (withMotor t c m) ≡ true
-unfolding soundHead
 motor-sound t c m s h sm =
     let e = sound-length t s in
+    let p = head-parts t (sound-head-of t s) in
+    let kept = head-kept t c m e h in
     sound-from (withMotor t c m) (motor-length t c m e h)
-    (rw (head-kept t c m e h 0 1 (omega arith), head-kept t c m e h 1 1 (omega arith), head-kept t c m e h 2 1 (omega arith), head-kept t c m e h 3 61 (omega arith)) (sound-head-of t s))
+    (parts-head (withMotor t c m) (record {
+      mode = rw (kept 0 1 (omega arith)) (p .mode);
+      reply = rw (kept 1 1 (omega arith)) (p .reply);
+      errors = rw (kept 2 1 (omega arith)) (p .errors);
+      zeros = rw (kept 3 61 (omega arith)) (p .zeros);
+    }))
     (λ d l. go d l (eqb d c) refl)
   where
     go : (d : ℕ) → d < 16 → (b : Bool) → eqb d c ≡ b → soundRecord (recordAt (withMotor t c m) d) ≡ true
@@ -96,22 +118,6 @@ up-to-sound f t s keeps (suc k) h =
 pub motors-sound : (f : Motor → Motor) (t : List ℕ) → soundTable t ≡ true
     → ((m : Motor) → soundMotor m ≡ true → soundMotor (f m) ≡ true) → soundTable (withMotors t f) ≡ true
 motors-sound f t s keeps = rw (← up-to-all f t (sound-length t s)) (up-to-sound f t s keeps 16 (omega arith))
-
--- a sound head in its parts
-pub record HeadParts (t : List ℕ) : Type 0 where
-  pub mode : mode t ≤ 1
-  pub reply : allReply t ≤ 1
-  pub errors : errors t ≤ 15
-  pub zeros : allZero (part t 3 61) ≡ true
-
--- A sound head is sound in its parts, and the other way round.
-pub head-parts : (t : List ℕ) → soundHead t ≡ true → HeadParts t
-unfolding soundHead
-head-parts t e = search (and-l, and-r, leb-true)
-
-pub parts-head : (t : List ℕ) → HeadParts t → soundHead t ≡ true
-unfolding soundHead
-parts-head t p = cc (le-leb _ _ (p .mode), le-leb _ _ (p .reply), le-leb _ _ (p .errors))
 
 -- A field of the head written within its range leaves a sound table sound.
 module _ (t : List ℕ) (s : soundTable t ≡ true) (k : ℕ) where

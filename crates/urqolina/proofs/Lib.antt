@@ -1,3 +1,4 @@
+pub mod CallLaws
 pub mod Steps
 pub mod Cases
 pub mod Refusals

@@ -1,8 +1,8 @@
 -- `replies::number_of` meets its contract. Assumes nothing.
 use mathlib.Core.Path.{sym}
+use borrow.Author.Needs.{needs}
 use Rattle.drive.specs.Numbers.{numberOf}
 use Rattle.replies.proofs.ReplyLaws.{causes-share}
-use borrow.Author.Needs.{needs}
 use Rattle.replies.proofs.number_of.Statement.{statement}
 use Rattle.replies.proofs.number_of.Tie as tie
 

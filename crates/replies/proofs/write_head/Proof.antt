@@ -1,13 +1,17 @@
 -- `replies::write_head` meets its contract. Assumes nothing.
-use Rattle.line.specs.declared.HeadQuestion.the-variants.{AskAllReply, AskError}
-use Rattle.replies.proofs.ReplyLaws.{head-within}
+use mathlib.Core.Path.{refl}
+use Prim.Native.Nat.{_≤_}
+use lib.ListN.{length}
+use borrow.Author.Needs.{needs}
 use Rattle.digits.specs.Text.{hexByte}
 use Rattle.replies.specs.Replies.{headText}
-use mathlib.Core.Path.{refl}
-use native.Mathlib.Omega.{arith}
-use borrow.Author.Needs.{needs}
+use Rattle.replies.proofs.ReplyLaws.{short, head-within}
 use Rattle.replies.proofs.write_head.Statement.{statement}
 use Rattle.replies.proofs.write_head.Tie as tie
+
+-- what is answered is short
+within : (c : tie.Start) → length (headText (c .args .all) (c .args .flags) (c .args .q)) ≤ 17
+within c = head-within (c .args .all) (c .args .flags) (c .args .q)
 
 enum-told : tie.Need-enum-told
 enum-told c = search needs
@@ -33,10 +37,8 @@ same-length c = search needs
 returns : tie.Need-returns
 unfolding headText
 returns c =
-    let a = c .before .before .before .before .before .before .before .args in
-    let w = c .before .before .write-all-reply .ensures in
-    let q = c .before .before .before .before .enum-told .given .1 in
-    (rw q w, omega (arith, w .count, head-within (a .all) 0 AskAllReply))
+    let s = c .before .before .before .before in
+    short (within (s .before .before .before)) (rw (s .enum-told .given .1) (c .before .before .write-all-reply .ensures))
 
 same-length-2 : tie.Need-same-length-2
 same-length-2 c = search needs
@@ -44,7 +46,8 @@ same-length-2 c = search needs
 returns-2 : tie.Need-returns-2
 unfolding headText hexByte
 returns-2 c =
-    (rw (c .before .before .before .before .enum-told2 .given .1) (record { count = refl; buffer = c .before .before .write-hex .ensures }), omega arith)
+    let s = c .before .before .before .before in
+    short (within (s .before .before .before)) (rw (s .enum-told2 .given .1) (record { count = refl; buffer = c .before .before .write-hex .ensures }))
 
 same-length-3 : tie.Need-same-length-3
 same-length-3 c = search needs
@@ -52,10 +55,8 @@ same-length-3 c = search needs
 returns-3 : tie.Need-returns-3
 unfolding headText
 returns-3 c =
-    let a = c .before .before .before .before .before .before .before .args in
-    let w = c .before .before .write-error .ensures in
-    let q = c .before .before .before .before .enum-told3 .given .1 in
-    (rw q w, omega (arith, w .count, head-within (a .all) (a .flags) AskError))
+    let s = c .before .before .before .before in
+    short (within (s .before .before .before)) (rw (s .enum-told3 .given .1) (c .before .before .write-error .ensures))
 
 pub write-head-spec : {M : Type 1} → statement M
 write-head-spec =

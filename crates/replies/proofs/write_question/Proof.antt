@@ -1,30 +1,35 @@
 -- `replies::write_question` meets its contract. Assumes nothing.
-use Rattle.line.specs.declared.Question.the-variants.{AskPosition, AskCwLimit, AskCcwLimit, AskSelected, AskSwitches, AskMotor, AskStatus}
-use Rattle.digits.proofs.TextLaws.{decimal-within, signed-within}
-use Rattle.replies.proofs.ReplyLaws.{question-within}
-use Rattle.replies.specs.Replies.{questionText}
+use Prim.Native.Nat.{_≤_}
 use native.Mathlib.Omega.{arith}
+use lib.ListN.{length}
 use borrow.Author.Needs.{needs}
+use Rattle.digits.proofs.TextLaws.{decimal-within}
+use Rattle.replies.specs.Replies.{questionText}
+use Rattle.replies.proofs.ReplyLaws.{position-within, question-within, short}
 use Rattle.replies.proofs.write_question.Statement.{statement}
 use Rattle.replies.proofs.write_question.Tie as tie
+
+-- what is answered is short
+within : (c : tie.Start) → length (questionText (c .args .k) (c .args .x) (c .args .m) (c .args .q)) ≤ 17
+within c = question-within (c .args .k) (c .args .x) (c .args .m) (c .args .q)
 
 enum-told : tie.Need-enum-told
 enum-told c = search needs
 
 write-signed-requires : tie.Need-write-signed-requires
-write-signed-requires c κs = omega (arith, signed-within 7 (c .before .before .before .before .before .before .args .m .place) (omega arith))
+write-signed-requires c κs = omega (arith, position-within (c .before .before .before .before .before .before .args .m .place))
 
 enum-told-2 : tie.Need-enum-told-2
 enum-told-2 c = search needs
 
 write-signed-requires-2 : tie.Need-write-signed-requires-2
-write-signed-requires-2 c κs = omega (arith, signed-within 7 (c .before .before .before .before .before .before .args .m .limits .cw) (omega arith))
+write-signed-requires-2 c κs = omega (arith, position-within (c .before .before .before .before .before .before .args .m .limits .cw))
 
 enum-told-3 : tie.Need-enum-told-3
 enum-told-3 c = search needs
 
 write-signed-requires-3 : tie.Need-write-signed-requires-3
-write-signed-requires-3 c κs = omega (arith, signed-within 7 (c .before .before .before .before .before .before .args .m .limits .ccw) (omega arith))
+write-signed-requires-3 c κs = omega (arith, position-within (c .before .before .before .before .before .before .args .m .limits .ccw))
 
 enum-told-4 : tie.Need-enum-told-4
 enum-told-4 c = search needs
@@ -65,10 +70,8 @@ same-length c = search needs
 returns : tie.Need-returns
 unfolding questionText
 returns c =
-    let a = c .before .before .before .before .before .before .before .before .before .args in
-    let w = c .before .before .write-signed .ensures in
-    let q = c .before .before .before .before .enum-told .given .1 in
-    (rw q w, omega (arith, w .count, question-within (a .k) (a .x) (a .m) AskPosition))
+    let s = c .before .before .before .before in
+    short (within (s .before .before .before .before .before)) (rw (s .enum-told .given .1) (c .before .before .write-signed .ensures))
 
 same-length-2 : tie.Need-same-length-2
 same-length-2 c = search needs
@@ -76,10 +79,8 @@ same-length-2 c = search needs
 returns-2 : tie.Need-returns-2
 unfolding questionText
 returns-2 c =
-    let a = c .before .before .before .before .before .before .before .before .before .args in
-    let w = c .before .before .write-signed2 .ensures in
-    let q = c .before .before .before .before .enum-told2 .given .1 in
-    (rw q w, omega (arith, w .count, question-within (a .k) (a .x) (a .m) AskCwLimit))
+    let s = c .before .before .before .before in
+    short (within (s .before .before .before .before .before)) (rw (s .enum-told2 .given .1) (c .before .before .write-signed2 .ensures))
 
 same-length-3 : tie.Need-same-length-3
 same-length-3 c = search needs
@@ -87,10 +88,8 @@ same-length-3 c = search needs
 returns-3 : tie.Need-returns-3
 unfolding questionText
 returns-3 c =
-    let a = c .before .before .before .before .before .before .before .before .before .args in
-    let w = c .before .before .write-signed3 .ensures in
-    let q = c .before .before .before .before .enum-told3 .given .1 in
-    (rw q w, omega (arith, w .count, question-within (a .k) (a .x) (a .m) AskCcwLimit))
+    let s = c .before .before .before .before in
+    short (within (s .before .before .before .before .before)) (rw (s .enum-told3 .given .1) (c .before .before .write-signed3 .ensures))
 
 same-length-4 : tie.Need-same-length-4
 same-length-4 c = search needs
@@ -98,10 +97,8 @@ same-length-4 c = search needs
 returns-4 : tie.Need-returns-4
 unfolding questionText
 returns-4 c =
-    let a = c .before .before .before .before .before .before .before .before .before .args in
-    let w = c .before .before .write-selected .ensures in
-    let q = c .before .before .before .before .enum-told4 .given .1 in
-    (rw q w, omega (arith, w .count, question-within (a .k) (a .x) (a .m) AskSelected))
+    let s = c .before .before .before .before in
+    short (within (s .before .before .before .before .before)) (rw (s .enum-told4 .given .1) (c .before .before .write-selected .ensures))
 
 same-length-5 : tie.Need-same-length-5
 same-length-5 c = search needs
@@ -109,10 +106,9 @@ same-length-5 c = search needs
 returns-5 : tie.Need-returns-5
 unfolding questionText
 returns-5 c =
-    let w = c .before .before .write-decimal .ensures in
-    let q = c .before .before .before .before .before .before .q .given .1 in
-    let s = c .before .before .before .speed-numbered in
-    (rw (q, ← s .ensures) w, omega (arith, w .count, decimal-within 6 (s .result) (omega arith)))
+    let s = c .before .before .before .before .before .before in
+    short (within (s .before .before .before .before .before))
+    (rw (s .q .given .1, ← c .before .before .before .speed-numbered .ensures) (c .before .before .write-decimal .ensures))
 
 same-length-6 : tie.Need-same-length-6
 same-length-6 c = search needs
@@ -120,10 +116,8 @@ same-length-6 c = search needs
 returns-6 : tie.Need-returns-6
 unfolding questionText
 returns-6 c =
-    let a = c .before .before .before .before .before .before .before .before .before .args in
-    let w = c .before .before .write-switches .ensures in
-    let q = c .before .before .before .before .enum-told5 .given .1 in
-    (rw q w, omega (arith, w .count, question-within (a .k) (a .x) (a .m) AskSwitches))
+    let s = c .before .before .before .before in
+    short (within (s .before .before .before .before .before)) (rw (s .enum-told5 .given .1) (c .before .before .write-switches .ensures))
 
 same-length-7 : tie.Need-same-length-7
 same-length-7 c = search needs
@@ -131,10 +125,8 @@ same-length-7 c = search needs
 returns-7 : tie.Need-returns-7
 unfolding questionText
 returns-7 c =
-    let a = c .before .before .before .before .before .before .before .before .before .args in
-    let w = c .before .before .write-setup .ensures in
-    let q = c .before .before .before .before .enum-told6 .given .1 in
-    (rw q w, omega (arith, w .count, question-within (a .k) (a .x) (a .m) AskMotor))
+    let s = c .before .before .before .before in
+    short (within (s .before .before .before .before .before)) (rw (s .enum-told6 .given .1) (c .before .before .write-setup .ensures))
 
 same-length-8 : tie.Need-same-length-8
 same-length-8 c = search needs
@@ -142,10 +134,8 @@ same-length-8 c = search needs
 returns-8 : tie.Need-returns-8
 unfolding questionText
 returns-8 c =
-    let a = c .before .before .before .before .before .before .before .before .before .args in
-    let w = c .before .before .write-status .ensures in
-    let q = c .before .before .before .before .enum-told7 .given .1 in
-    (rw q w, omega (arith, w .count, question-within (a .k) (a .x) (a .m) AskStatus))
+    let s = c .before .before .before .before in
+    short (within (s .before .before .before .before .before)) (rw (s .enum-told7 .given .1) (c .before .before .write-status .ensures))
 
 pub write-question-spec : {M : Type 1} → statement M
 write-question-spec =

@@ -1,8 +1,8 @@
 -- `replies::settings::write_selected` meets its contract. Assumes nothing.
-use Rattle.digits.specs.Text.{bytes}
-use Rattle.replies.specs.Replies.{selectedText}
 use borrow.Author.Tests.{eq-eqb, ne-eqb}
 use borrow.Author.Needs.{needs}
+use Rattle.digits.specs.Text.{bytes}
+use Rattle.replies.specs.Replies.{selectedText}
 use Rattle.replies.proofs.settings.write_selected.Statement.{statement}
 use Rattle.replies.proofs.settings.write_selected.Tie as tie
 
@@ -36,14 +36,18 @@ same-length-2 c = search needs
 
 returns-2 : tie.Need-returns-2
 unfolding selectedText bytes
-returns-2 c = rw (ne-eqb _ _ (c .before .before .before .before .before .before .if1 .left), eq-eqb _ _ (c .before .before .before .before .before .if2 .taken)) (c .before .before .write-text2 .ensures)
+returns-2 c =
+    let s = c .before .before .before .before .before in
+    rw (ne-eqb _ _ (s .before .if1 .left), eq-eqb _ _ (s .if2 .taken)) (c .before .before .write-text2 .ensures)
 
 same-length-3 : tie.Need-same-length-3
 same-length-3 c = search needs
 
 returns-3 : tie.Need-returns-3
 unfolding selectedText bytes
-returns-3 c = rw (ne-eqb _ _ (c .before .before .before .before .before .before .if1 .left), ne-eqb _ _ (c .before .before .before .before .before .if2 .left)) (c .before .before .write-text3 .ensures)
+returns-3 c =
+    let s = c .before .before .before .before .before in
+    rw (ne-eqb _ _ (s .before .if1 .left), ne-eqb _ _ (s .if2 .left)) (c .before .before .write-text3 .ensures)
 
 pub write-selected-spec : {M : Type 1} → statement M
 write-selected-spec =

@@ -1,11 +1,11 @@
 -- `replies::settings::write_setup` meets its contract. Assumes nothing.
-use Rattle.replies.specs.Replies.{motorText}
-use Rattle.replies.proofs.ReplyLaws.{setup-small}
-use Rattle.digits.proofs.PutLaws.{stores-put}
-use lib.ListN.{length-set}
 use mathlib.Core.Path.{refl}
 use native.Mathlib.Omega.{arith}
+use lib.ListN.{length-set}
 use borrow.Author.Needs.{needs}
+use Rattle.digits.proofs.PutLaws.{stores-put}
+use Rattle.replies.specs.Replies.{motorText}
+use Rattle.replies.proofs.ReplyLaws.{setup-small}
 use Rattle.replies.proofs.settings.write_setup.Statement.{statement}
 use Rattle.replies.proofs.settings.write_setup.Tie as tie
 
@@ -38,7 +38,9 @@ same-length c = search needs
 
 returns : tie.Need-returns
 unfolding motorText
-returns c = record { count = refl; buffer = stores-put (motorText (c .before .before .before .before .args .s)) (c .before .before .before .before .args .out .now) 0 (omega arith) }
+returns c =
+    let a = c .before .before .before .before .args in
+    record { count = refl; buffer = stores-put (motorText (a .s)) (a .out .now) 0 (omega arith) }
 
 pub write-setup-spec : {M : Type 1} → statement M
 write-setup-spec =

@@ -1,11 +1,11 @@
 -- `replies::settings::write_switches` meets its contract. Assumes nothing.
-use native.Mathlib.Nat.{div-one}
-use Rattle.replies.specs.Replies.{switchesText}
-use Rattle.digits.proofs.PutLaws.{stores-put}
-use lib.ListN.{length-set}
 use mathlib.Core.Path.{refl}
+use native.Mathlib.Nat.{div-one}
 use native.Mathlib.Omega.{arith}
+use lib.ListN.{length-set}
 use borrow.Author.Needs.{needs}
+use Rattle.digits.proofs.PutLaws.{stores-put}
+use Rattle.replies.specs.Replies.{switchesText}
 use Rattle.replies.proofs.settings.write_switches.Statement.{statement}
 use Rattle.replies.proofs.settings.write_switches.Tie as tie
 

@@ -1,6 +1,6 @@
 -- `replies::status::going_letter` meets its contract. Assumes nothing.
-use Rattle.replies.specs.Replies.{goingLetter}
 use borrow.Author.Tests.{eq-eqb, ne-eqb}
+use Rattle.replies.specs.Replies.{goingLetter}
 use Rattle.replies.proofs.status.going_letter.Statement.{statement}
 use Rattle.replies.proofs.status.going_letter.Tie as tie
 

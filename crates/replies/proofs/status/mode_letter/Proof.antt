@@ -1,6 +1,6 @@
 -- `replies::status::mode_letter` meets its contract. Assumes nothing.
-use Rattle.replies.specs.Replies.{modeLetter}
 use borrow.Author.Tests.{eq-eqb, ne-eqb}
+use Rattle.replies.specs.Replies.{modeLetter}
 use Rattle.replies.proofs.status.mode_letter.Statement.{statement}
 use Rattle.replies.proofs.status.mode_letter.Tie as tie
 

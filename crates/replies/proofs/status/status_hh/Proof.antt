@@ -1,6 +1,6 @@
 -- `replies::status::status_hh` meets its contract. Assumes nothing.
-use Rattle.replies.specs.Replies.{statusHH}
 use borrow.Author.Needs.{needs}
+use Rattle.replies.specs.Replies.{statusHH}
 use Rattle.replies.proofs.status.status_hh.Statement.{statement}
 use Rattle.replies.proofs.status.status_hh.Tie as tie
 

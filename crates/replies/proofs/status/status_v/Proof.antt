@@ -1,7 +1,7 @@
 -- `replies::status::status_v` meets its contract. Assumes nothing.
-use Rattle.replies.specs.Replies.{statusV}
 use native.Mathlib.Omega.{arith}
 use borrow.Author.Needs.{needs}
+use Rattle.replies.specs.Replies.{statusV}
 use Rattle.replies.proofs.status.status_v.Statement.{statement}
 use Rattle.replies.proofs.status.status_v.Tie as tie
 

@@ -29,7 +29,17 @@ add-result-2 : tie.Need-add-result-2
 add-result-2 c = search needs
 
 returns : tie.Need-returns
-returns c = (rw (c .flag-if3 .ensures .0, c .before .is-active3 .ensures, c .before .before .flag-if2 .ensures .0, c .before .before .before .is-active2 .ensures, c .before .before .before .before .flag-if .ensures .0, c .before .before .before .before .before .is-active .ensures), omega arith)
+returns c = (
+  rw (
+    c .flag-if3 .ensures .0,
+    c .before .is-active3 .ensures,
+    c .before .before .flag-if2 .ensures .0,
+    c .before .before .before .is-active2 .ensures,
+    c .before .before .before .before .flag-if .ensures .0,
+    c .before .before .before .before .before .is-active .ensures,
+  ),
+  omega arith,
+)
 
 pub switch-flags-spec : {M : Type 1} → statement M
 switch-flags-spec =

@@ -1,14 +1,14 @@
 -- `replies::status::write_letters` meets its contract. Assumes nothing.
-use Prim.Native.Nat.{_%_}
 use mathlib.Core.List.{[], _∷_}
+use mathlib.Core.Path.{_≡_}
+use Prim.Native.Nat.{_%_}
+use native.Mathlib.Omega.{arith}
+use lib.ListN.{length-set}
+use borrow.Author.Needs.{needs}
 use denote.Ref.{now}
 use Rattle.digits.specs.Text.{hexDigit}
-use Rattle.replies.specs.Replies.{modeLetter, goingLetter}
 use Rattle.digits.proofs.PutLaws.{stores-put}
-use lib.ListN.{length-set}
-use mathlib.Core.Path.{_≡_}
-use native.Mathlib.Omega.{arith}
-use borrow.Author.Needs.{needs}
+use Rattle.replies.specs.Replies.{modeLetter, goingLetter}
 use Rattle.replies.proofs.status.write_letters.Statement.{statement}
 use Rattle.replies.proofs.status.write_letters.Tie as tie
 

@@ -1,14 +1,14 @@
--- `replies::status::write_status` meets its contract. Assumes nothing.
+-- `replies::status::write_status` meets its contract: what the part after the six bytes is left with is put after them.
+-- Assumes nothing.
 use Prim.Native.Nat.{_+_, _≤_}
-use Rattle.digits.proofs.TextLaws.{signed-within}
-use Rattle.replies.proofs.ReplyLaws.{status-put}
-use denote.Ref.{now}
-use Rattle.digits.specs.Text.{signedDecimal, hexByte}
-use Rattle.replies.specs.Replies.{statusText}
-use Rattle.digits.proofs.PutLaws.{put-rest}
-use lib.ListN.{length, length-take, length-drop}
 use native.Mathlib.Omega.{arith}
+use lib.ListN.{length, length-take, length-drop}
 use borrow.Author.Needs.{needs}
+use denote.Ref.{now}
+use Rattle.digits.specs.Text.{hexByte}
+use Rattle.digits.proofs.PutLaws.{put-rest}
+use Rattle.replies.specs.Replies.{positionText, statusText}
+use Rattle.replies.proofs.ReplyLaws.{position-within, status-put}
 use Rattle.replies.proofs.status.write_status.Statement.{statement}
 use Rattle.replies.proofs.status.write_status.Tie as tie
 
@@ -29,10 +29,12 @@ part-write-signed-end c = search needs
 
 write-signed-requires : tie.Need-write-signed-requires
 write-signed-requires c κs =
-    simp (length-take, length-drop) (omega (arith, signed-within 7 (c .before .before .before .before .before .before .before .before .before .before .args .m .place) (omega arith)))
+    simp (length-take, length-drop) (omega (arith, position-within (c .before .before .before .before .before .before .before .before .before .before .args .m .place)))
 
 add-result : tie.Need-add-result
-add-result c = omega (arith, c .before .before .write-signed .ensures .count, signed-within 7 (c .before .before .before .before .before .before .before .before .before .before .before .before .before .args .m .place) (omega arith))
+add-result c =
+    let w = c .before .before in
+    omega (arith, w .write-signed .ensures .count, position-within (w .before .before .before .before .before .before .before .before .before .before .before .args .m .place))
 
 same-length : tie.Need-same-length
 same-length c = search needs
@@ -40,14 +42,15 @@ same-length c = search needs
 returns : tie.Need-returns
 unfolding statusText hexByte
 returns c =
-    let a = c .before .before .before .before .before .before .before .before .before .before .before .before .before .args in
-    let done = c .before .before .before .before .before .before .write-flags .last .0 in
     let w = c .before .before .write-signed .ensures in
-    let fits : 6 + length (signedDecimal 7 (a .m .place)) ≤ length done = omega (arith, signed-within 7 (a .m .place) (omega arith)) in
+    let flags = c .before .before .before .before .before .before .write-flags in
+    let letters = c .before .before .before .before .before .before .before .before .before .before .write-letters in
+    let a = c .before .before .before .before .before .before .before .before .before .before .before .before .before .args in
+    let fits : 6 + length (positionText (a .m .place)) ≤ length (flags .last .0) = omega (arith, position-within (a .m .place)) in
     record {
       count = omega (arith, w .count);
       buffer =
-          rw (w .buffer, put-rest done (signedDecimal 7 (a .m .place)) 6 fits, c .before .before .before .before .before .before .write-flags .ensures, c .before .before .before .before .before .before .before .before .before .before .write-letters .ensures)
+          rw (w .buffer, put-rest (flags .last .0) (positionText (a .m .place)) 6 fits, flags .ensures, letters .ensures)
           (status-put (now (a .out)) (a .k) (a .x) (a .m) (omega arith));
     }
 

@@ -1,7 +1,7 @@
 -- `replies::texts::write_error` meets its contract. Assumes nothing.
+use borrow.Author.Needs.{needs}
 use Rattle.digits.specs.Text.{bytes}
 use Rattle.replies.specs.Replies.{errorText}
-use borrow.Author.Needs.{needs}
 use Rattle.replies.proofs.texts.write_error.Statement.{statement}
 use Rattle.replies.proofs.texts.write_error.Tie as tie
 
@@ -52,35 +52,77 @@ same-length c = search needs
 
 returns : tie.Need-returns
 unfolding errorText bytes
-returns c = rw (← c .before .before .before .before .before .before .is-set .ensures, c .before .before .before .before .before .if1 .taken) (c .before .before .write-text .ensures)
+returns c =
+    let t0 = c .before .before .before .before .before in
+    rw (← t0 .before .is-set .ensures, t0 .if1 .taken)
+    (c .before .before .write-text .ensures)
 
 same-length-2 : tie.Need-same-length-2
 same-length-2 c = search needs
 
 returns-2 : tie.Need-returns-2
 unfolding errorText bytes
-returns-2 c = rw (← c .before .before .before .before .before .before .before .before .is-set .ensures, c .before .before .before .before .before .before .before .if1 .left, ← c .before .before .before .before .before .before .is-set2 .ensures, c .before .before .before .before .before .if2 .taken) (c .before .before .write-text2 .ensures)
+returns-2 c =
+    let t1 = c .before .before .before .before .before in
+    let t0 = t1 .before .before in
+    rw (← t0 .before .is-set .ensures, t0 .if1 .left, ← t1 .before .is-set2 .ensures, t1 .if2 .taken)
+    (c .before .before .write-text2 .ensures)
 
 same-length-3 : tie.Need-same-length-3
 same-length-3 c = search needs
 
 returns-3 : tie.Need-returns-3
 unfolding errorText bytes
-returns-3 c = rw (← c .before .before .before .before .before .before .before .before .before .before .is-set .ensures, c .before .before .before .before .before .before .before .before .before .if1 .left, ← c .before .before .before .before .before .before .before .before .is-set2 .ensures, c .before .before .before .before .before .before .before .if2 .left, ← c .before .before .before .before .before .before .is-set3 .ensures, c .before .before .before .before .before .if3 .taken) (c .before .before .write-text3 .ensures)
+returns-3 c =
+    let t2 = c .before .before .before .before .before in
+    let t1 = t2 .before .before in
+    let t0 = t1 .before .before in
+    rw (← t0 .before .is-set .ensures, t0 .if1 .left, ← t1 .before .is-set2 .ensures, t1 .if2 .left, ← t2 .before .is-set3 .ensures, t2 .if3 .taken)
+    (c .before .before .write-text3 .ensures)
 
 same-length-4 : tie.Need-same-length-4
 same-length-4 c = search needs
 
 returns-4 : tie.Need-returns-4
 unfolding errorText bytes
-returns-4 c = rw (← c .before .before .before .before .before .before .before .before .before .before .before .before .is-set .ensures, c .before .before .before .before .before .before .before .before .before .before .before .if1 .left, ← c .before .before .before .before .before .before .before .before .before .before .is-set2 .ensures, c .before .before .before .before .before .before .before .before .before .if2 .left, ← c .before .before .before .before .before .before .before .before .is-set3 .ensures, c .before .before .before .before .before .before .before .if3 .left, ← c .before .before .before .before .before .before .is-set4 .ensures, c .before .before .before .before .before .if4 .taken) (c .before .before .write-text4 .ensures)
+returns-4 c =
+    let t3 = c .before .before .before .before .before in
+    let t2 = t3 .before .before in
+    let t1 = t2 .before .before in
+    let t0 = t1 .before .before in
+    rw (
+      ← t0 .before .is-set .ensures,
+      t0 .if1 .left,
+      ← t1 .before .is-set2 .ensures,
+      t1 .if2 .left,
+      ← t2 .before .is-set3 .ensures,
+      t2 .if3 .left,
+      ← t3 .before .is-set4 .ensures,
+      t3 .if4 .taken,
+    )
+    (c .before .before .write-text4 .ensures)
 
 same-length-5 : tie.Need-same-length-5
 same-length-5 c = search needs
 
 returns-5 : tie.Need-returns-5
 unfolding errorText bytes
-returns-5 c = rw (← c .before .before .before .before .before .before .before .before .before .before .before .before .is-set .ensures, c .before .before .before .before .before .before .before .before .before .before .before .if1 .left, ← c .before .before .before .before .before .before .before .before .before .before .is-set2 .ensures, c .before .before .before .before .before .before .before .before .before .if2 .left, ← c .before .before .before .before .before .before .before .before .is-set3 .ensures, c .before .before .before .before .before .before .before .if3 .left, ← c .before .before .before .before .before .before .is-set4 .ensures, c .before .before .before .before .before .if4 .left) (c .before .before .write-text5 .ensures)
+returns-5 c =
+    let t3 = c .before .before .before .before .before in
+    let t2 = t3 .before .before in
+    let t1 = t2 .before .before in
+    let t0 = t1 .before .before in
+    rw (
+      ← t0 .before .is-set .ensures,
+      t0 .if1 .left,
+      ← t1 .before .is-set2 .ensures,
+      t1 .if2 .left,
+      ← t2 .before .is-set3 .ensures,
+      t2 .if3 .left,
+      ← t3 .before .is-set4 .ensures,
+      t3 .if4 .left,
+    )
+    (c .before .before .write-text5 .ensures)
 
 pub write-error-spec : {M : Type 1} → statement M
 write-error-spec =

@@ -1,9 +1,9 @@
 -- `replies::texts::write_verdict` meets its contract. Assumes nothing.
+use borrow.Author.Needs.{needs}
 use denote.Ref.{now}
-use Rattle.replies.proofs.ReplyLaws.{causes-share, wrote-none}
 use Rattle.digits.specs.Text.{bytes}
 use Rattle.replies.specs.Replies.{textOf}
-use borrow.Author.Needs.{needs}
+use Rattle.replies.proofs.ReplyLaws.{causes-share, wrote-none}
 use Rattle.replies.proofs.texts.write_verdict.Statement.{statement}
 use Rattle.replies.proofs.texts.write_verdict.Tie as tie
 
@@ -96,7 +96,9 @@ same-length-5 c = search needs
 
 returns-7 : tie.Need-returns-7
 unfolding bytes
-returns-7 c = rw (causes-share (c .before .before .before .before .before .before .before .args .v) (c .before .before .before .before .before .match .keys7) .1) (c .before .before .write-text5 .ensures)
+returns-7 c =
+    let s = c .before .before .before .before .before in
+    rw (causes-share (s .before .before .args .v) (s .match .keys7) .1) (c .before .before .write-text5 .ensures)
 
 pub write-verdict-spec : {M : Type 1} → statement M
 write-verdict-spec =

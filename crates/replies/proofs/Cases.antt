@@ -1,0 +1,125 @@
+-- Replies computed by the definitions. Each list is one statement, and its proof is the computation.
+use mathlib.Core.Path.{_≡_, refl}
+use mathlib.Core.List.{List, [], _∷_, map}
+use Prim.Native.Nat.{ℕ, _+_, _-_}
+use lib.ListN.{replicate}
+use Rattle.digits.specs.Text.{bytes}
+use Rattle.digits.specs.Places.{origin, lowest, highest, cw, ccw}
+use Rattle.record.specs.declared.Motor.{Motor}
+use Rattle.record.specs.Record.{freshMotor, standing, withPlace, withSpeeds, withWiring, withSetup, withDrive}
+use Rattle.drive.specs.declared.Course.the-variants.{To, Along}
+use Rattle.drive.specs.declared.Verdict.the-variants.{Done, NoForm, Busy, OutOfRange, LocalMode, Disabled, SwitchAhead, NoRoom, NotDriving, WrongSize, NotSound}
+use Rattle.drive.specs.Drives.{started, stopped}
+use Rattle.drive.specs.Ticks.{ticks}
+use Rattle.line.specs.declared.Question.the-variants.{AskPosition, AskCwLimit, AskCcwLimit, AskSelected, AskSpeed, AskSwitches, AskMotor, AskStatus}
+use Rattle.line.specs.declared.HeadQuestion.the-variants.{AskAllReply, AskFlags, AskError}
+use Rattle.replies.specs.Replies.{echo, headText, questionText}
+use Rattle.replies.specs.Computing.{computing-replies}
+
+-- Every verdict has its text where all-reply is on: 5 and 6 have none.
+texts :
+    (map (echo 1) (Done ∷ NoForm ∷ Busy ∷ OutOfRange ∷ [])
+    ≡ bytes "OK" ∷ bytes "COMMAND ERROR" ∷ bytes "MCC06 BUSY ERROR" ∷ bytes "PARAMETER ERROR" ∷ [])
+    × (map (echo 1) (LocalMode ∷ Disabled ∷ SwitchAhead ∷ NoRoom ∷ NotDriving ∷ []) ≡ replicate 5 (bytes "NG"))
+    × (map (echo 1) (WrongSize ∷ NotSound ∷ []) ≡ [] ∷ [] ∷ [])
+unfolding computing-replies
+texts = (refl, refl, refl)
+
+-- Where it is off, no verdict has one.
+silent : map (echo 0) (Done ∷ NoForm ∷ Busy ∷ OutOfRange ∷ LocalMode ∷ NotDriving ∷ []) ≡ replicate 6 []
+unfolding computing-replies
+silent = refl
+
+-- `ALL_REP?`, and `ERRF?` in capitals
+about-head :
+    (headText 1 0 AskAllReply ≡ bytes "EN")
+    × (headText 0 0 AskAllReply ≡ bytes "DS")
+    × (map (λ e. headText 0 e AskFlags) (0 ∷ 8 ∷ 10 ∷ 15 ∷ 255 ∷ []) ≡ bytes "00" ∷ bytes "08" ∷ bytes "0A" ∷ bytes "0F" ∷ bytes "FF" ∷ [])
+unfolding computing-replies
+about-head = (refl, refl, refl)
+
+-- `ERR?` with each set of flags, 0 to 15: the lowest that is set has its text.
+errors :
+    (map (λ e. headText 0 e AskError) (0 ∷ 8 ∷ []) ≡ bytes "NO ERROR" ∷ bytes "OTHER ERROR" ∷ [])
+    × (map (λ e. headText 0 e AskError) (4 ∷ 12 ∷ []) ≡ replicate 2 (bytes "PARAMETER ERROR"))
+    × (map (λ e. headText 0 e AskError) (2 ∷ 6 ∷ 10 ∷ 14 ∷ [])
+    ≡ replicate 4 (bytes "MCC06 BUSY ERROR"))
+    × (map (λ e. headText 0 e AskError) (1 ∷ 3 ∷ 5 ∷ 7 ∷ 9 ∷ 11 ∷ 13 ∷ 15 ∷ [])
+    ≡ replicate 8 (bytes "COMMAND ERROR"))
+unfolding computing-replies
+errors = (refl, refl, refl, refl)
+
+-- what `PS?x` answers at a place
+atPlace : ℕ → List ℕ
+atPlace p = questionText 1 0 (withPlace freshMotor p) AskPosition
+
+-- "a sign (+ for 0) and at least 7 digits": more where the number has more, to the ends of the range
+positions :
+    map atPlace (origin ∷ (origin + 3) ∷ (origin - 30) ∷ (origin + 12345678) ∷ (origin - 1) ∷ lowest ∷ highest ∷ [])
+    ≡ bytes "+0000000" ∷ bytes "+0000003" ∷ bytes "-0000030" ∷ bytes "+12345678" ∷ bytes "-0000001" ∷ bytes "-2147483647" ∷ bytes "+2147483647" ∷ []
+unfolding computing-replies atPlace
+positions = refl
+
+-- Numbers that no sound table has are answered too: a place past the range, flags past the fourth, another speed's number.
+unsound :
+    (atPlace 0 ≡ bytes "-2147483648")
+    × (headText 2 0 AskAllReply ≡ bytes "DS")
+    × (headText 0 16 AskError ≡ bytes "NO ERROR")
+    × (questionText 1 0 freshMotor (AskSpeed 3) ≡ bytes "001000")
+unfolding computing-replies atPlace
+unsound = (refl, refl, refl, refl)
+
+-- the settings of a fresh motor
+fresh-settings :
+    map (questionText 0 0 freshMotor) (AskCwLimit ∷ AskCcwLimit ∷ AskSelected ∷ AskSpeed 2 ∷ AskSpeed 1 ∷ AskSpeed 0 ∷ AskSwitches ∷ AskMotor ∷ [])
+    ≡ bytes "+1000000" ∷ bytes "-1000000" ∷ bytes "MSPD" ∷ bytes "001000" ∷ bytes "000800" ∷ bytes "000050" ∷ bytes "01110000" ∷ bytes "1100" ∷ []
+unfolding computing-replies
+fresh-settings = refl
+
+-- a motor with other settings: speeds of more and of fewer digits, every switch digit that may be 1, D = 2
+other : ℕ → Motor
+other selected =
+    withSetup
+    (withWiring
+    (withSpeeds freshMotor (record { high = 5000000; middle = 123456; low = 1; selected = selected }))
+    (record { setls = 0b11110101; contacts = 0 }))
+    (record { a = 0; b = 1; c = 0; d = 2 })
+
+other-settings :
+    (map (questionText 1 15 (other 0)) (AskSpeed 2 ∷ AskSpeed 1 ∷ AskSpeed 0 ∷ AskSwitches ∷ AskMotor ∷ [])
+    ≡ bytes "5000000" ∷ bytes "123456" ∷ bytes "000001" ∷ bytes "11110101" ∷ bytes "0102" ∷ [])
+    × (map (λ n. questionText 1 15 (other n) AskSelected) (0 ∷ 1 ∷ 2 ∷ []) ≡ bytes "LSPD" ∷ bytes "MSPD" ∷ bytes "HSPD" ∷ [])
+unfolding computing-replies other
+other-settings = (refl, refl)
+
+-- "`STSx?`": the cases of the document, then local mode, CCW, the channel in hex and end flags
+statuses :
+    (questionText 1 0 (ticks 3 (started freshMotor (To (origin + 3)))) AskStatus ≡ bytes "R0P003+0000002")
+    × (questionText 1 0 (withDrive (withPlace freshMotor (origin + 3)) 0x20 standing) AskStatus ≡ bytes "R0S020+0000003")
+    × (questionText 1 0 (withPlace freshMotor (origin + 3)) AskStatus ≡ bytes "R0S000+0000003")
+    × (questionText 0 10 freshMotor AskStatus ≡ bytes "LAS000+0000000")
+    × (questionText 1 15 (ticks 5 (started freshMotor (Along ccw))) AskStatus ≡ bytes "RFN003-0000004")
+    × (questionText 1 9 (stopped 0x80 (started freshMotor (Along cw))) AskStatus ≡ bytes "R9S080+0000000")
+    × (questionText 1 9 (stopped 0x40 (started freshMotor (Along cw))) AskStatus ≡ bytes "R9S040+0000000")
+    × (questionText 1 0 (withPlace freshMotor lowest) AskStatus ≡ bytes "R0S000-2147483647")
+unfolding computing-replies
+statuses = (refl, refl, refl, refl, refl, refl, refl, refl)
+
+-- what `STSx?` answers with a SETLS byte, contacts and the digit B
+withV : ℕ → ℕ → ℕ → List ℕ
+withV setls contacts b =
+    questionText 1 0
+    (withSetup (withWiring freshMotor (record { setls = setls; contacts = contacts })) (record { a = 1; b = b; c = 0; d = 0 }))
+    AskStatus
+
+-- "V": a closed N.O. contact and an open N.C. one count, enabled or not; bit 3 is B = 0 when stopped, and only then.
+switches-shown :
+    (withV 0b01110001 0 1 ≡ bytes "R0S100+0000000")
+    × (withV 0b01110000 0b010 1 ≡ bytes "R0S200+0000000")
+    × (withV 0b00000000 0b100 1 ≡ bytes "R0S400+0000000")
+    × (withV 0b01110111 0b111 1 ≡ bytes "R0S000+0000000")
+    × (withV 0b01110000 0b000 0 ≡ bytes "R0S800+0000000")
+    × (withV 0b00000101 0b010 0 ≡ bytes "R0SF00+0000000")
+    × (questionText 1 0 (started (withSetup freshMotor (record { a = 1; b = 0; c = 0; d = 0 })) (Along cw)) AskStatus ≡ bytes "R0P003+0000000")
+unfolding computing-replies withV
+switches-shown = (refl, refl, refl, refl, refl, refl, refl)

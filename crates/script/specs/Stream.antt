@@ -1,0 +1,55 @@
+-- bench as it reads: a byte at a time, so that a line may be of any length. Only the front of a line is held, since a line that
+-- is longer asks for nothing, or for a command line that is too long either way. The law in proofs/Streaming.antt says that what
+-- is printed so is what bench prints.
+use Prim.Native.Char.{code}
+use Prim.Native.Nat.{ℕ}
+use mathlib.Core.List.{List, [], _∷_, _++_}
+use mathlib.Core.Bool.{cond}
+use lib.ListN.{length, take}
+use lib.Dec.{eqb, ltb}
+use Rattle.script.specs.Jobs.{jobOf}
+use Rattle.script.specs.Output.{Printed, jobDone}
+
+-- how many bytes of a line are held: enough for `C ` and a command line of over 80 bytes
+abbrev pub heldSize : ℕ
+heldSize = 96
+
+-- what is held of a line
+abbrev pub heldOf : List ℕ → List ℕ
+heldOf line = take heldSize line
+
+-- what is held with one more byte of the line: a byte past those that are held is left out
+unfoldable pub kept : List ℕ → ℕ → List ℕ
+kept held b = cond (ltb (length held) heldSize) (held ++ (b ∷ [])) held
+
+-- a line by itself: its table, and its text with the line feed
+unfoldable pub lineDone : List ℕ → List ℕ → Printed
+lineDone t line =
+    let r = jobDone t line (jobOf line) in
+    record { table = r .table; text = r .text ++ (code "\n" ∷ []) }
+
+-- what a byte of the input leaves and prints
+pub record Stepped : Type 0 where
+  pub table : List ℕ
+  pub held : List ℕ
+  pub text : List ℕ
+
+-- a line feed ends the line, and nothing is held of the next one yet; any other byte is one more of the line
+unfoldable pub byteRead : List ℕ → List ℕ → ℕ → Stepped
+byteRead t held b =
+    let r = lineDone t held in
+    cond (eqb b (code "\n"))
+    (record { table = r .table; held = []; text = r .text })
+    (record { table = t; held = kept held b; text = [] })
+
+-- the end of the input ends a line that has a byte
+unfoldable pub endRead : List ℕ → List ℕ → List ℕ
+endRead t [] = []
+endRead t (b ∷ s) = lineDone t (b ∷ s) .text
+
+-- all that is printed from a table, what is held and what is still to be read
+unfoldable pub streamed : List ℕ → List ℕ → List ℕ → List ℕ
+streamed t held [] = endRead t held
+streamed t held (b ∷ s) =
+    let r = byteRead t held b in
+    r .text ++ streamed (r .table) (r .held) s

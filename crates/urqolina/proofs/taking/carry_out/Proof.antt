@@ -1,0 +1,39 @@
+-- `urqolina::taking::carry_out` meets its contract. Assumes nothing.
+use Rattle.table.proofs.KeptLaws.{sound-head-of, head-parts}
+use Rattle.table.proofs.TableLaws.{sound-length}
+use borrow.Author.Needs.{needs}
+use Rattle.urqolina.proofs.taking.carry_out.Statement.{statement}
+use Rattle.urqolina.proofs.taking.carry_out.Tie as tie
+
+change-requires : tie.Need-change-requires
+change-requires c κs = let s = c .before .before .before .pre .0 in (sound-length _ s, c .before .before .before .pre .2, c .before .before .before .pre .3, head-parts _ (sound-head-of _ s) .errors)
+
+all-reply-of-requires : tie.Need-all-reply-of-requires
+all-reply-of-requires c κs = search (needs, sound-length _ (c .before .before .before .before .before .before .before .before .pre .0))
+
+write-echo-requires : tie.Need-write-echo-requires
+write-echo-requires c κs = search needs
+
+result-of-requires : tie.Need-result-of-requires
+result-of-requires c κs = search needs
+
+same-length : tie.Need-same-length
+same-length c = search needs
+
+same-length-2 : tie.Need-same-length-2
+same-length-2 c = search needs
+
+returns : tie.Need-returns
+returns c = rw (c .result-of .ensures, c .before .before .before .write-echo .ensures .0 .count, c .before .before .before .write-echo .ensures .0 .buffer, c .before .before .before .before .all-reply-of .ensures, c .before .before .before .before .before .before .before .before .before .change .ensures)
+
+pub carry-out-spec : {M : Type 1} → statement M
+carry-out-spec =
+    tie.close
+    (tie.spec
+    change-requires
+    all-reply-of-requires
+    write-echo-requires
+    result-of-requires
+    same-length
+    same-length-2
+    returns)

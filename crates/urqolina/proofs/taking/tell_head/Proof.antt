@@ -1,0 +1,38 @@
+-- `urqolina::taking::tell_head` meets its contract. Assumes nothing.
+use Rattle.commands.specs.Answers.{answer}
+use Rattle.commands.specs.Changing.{changed}
+use Rattle.urqolina.specs.Calls.{obeyed}
+use Rattle.table.proofs.TableLaws.{sound-length}
+use borrow.Author.Needs.{needs}
+use Rattle.urqolina.proofs.taking.tell_head.Statement.{statement}
+use Rattle.urqolina.proofs.taking.tell_head.Tie as tie
+
+all-reply-of-requires : tie.Need-all-reply-of-requires
+all-reply-of-requires c κs = sound-length _ (c .before .before .before .pre .0)
+
+errors-of-requires : tie.Need-errors-of-requires
+errors-of-requires c κs = sound-length _ (c .before .before .before .before .pre .0)
+
+write-head-requires : tie.Need-write-head-requires
+write-head-requires c κs = search needs
+
+result-of-requires : tie.Need-result-of-requires
+result-of-requires c κs = search needs
+
+same-length : tie.Need-same-length
+same-length c = search needs
+
+returns : tie.Need-returns
+unfolding obeyed changed answer
+returns c = rw (c .result-of .ensures, c .before .before .before .write-head .ensures .0 .count, c .before .before .before .write-head .ensures .0 .buffer, c .before .before .before .before .errors-of .ensures, c .before .before .before .before .before .all-reply-of .ensures)
+
+pub tell-head-spec : {M : Type 1} → statement M
+tell-head-spec =
+    tie.close
+    (tie.spec
+    all-reply-of-requires
+    errors-of-requires
+    write-head-requires
+    result-of-requires
+    same-length
+    returns)

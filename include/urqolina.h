@@ -1,0 +1,94 @@
+/*
+ * Urqolina: the pulse controller of a sixteen-axis bench, for C firmware.
+ *
+ * Four calls over memory that the host owns. Each takes any bytes, any lengths and any numbers, judges all of them
+ * before it writes anything, and answers a number. A call keeps nothing between calls, allocates nothing and calls
+ * nothing outside the library. Each is proved, for all inputs, to leave in every buffer what its definition in
+ * crates/urqolina/specs/Calls.antt says.
+ *
+ * What the host sees to, since no call can check it:
+ *   - Every pointer is to as many bytes as the length beside it says, readable, and writable where it is not const.
+ *   - A pointer is never null, also where its length is 0: an empty line may be passed with any pointer that is not
+ *     null, such as "". Its byte is not read.
+ *   - The buffers of one call do not overlap.
+ *   - One call at a time on one table. Calls on different tables share nothing and may run at the same time.
+ *   - Between calls nothing else writes to the table. A host that restores a table it kept may do so: a table that is
+ *     not sound is answered 6.
+ */
+#ifndef URQOLINA_H
+#define URQOLINA_H
+
+#include <stddef.h>
+#include <stdint.h>
+
+#ifdef __cplusplus
+extern "C" {
+#endif
+
+/* The sizes of the buffers, in bytes. */
+#define URQOLINA_TABLE_SIZE 1088u  /* the table, exactly */
+#define URQOLINA_REPLY_SIZE 32u    /* the reply buffer, at least; no reply is longer than 17 bytes */
+#define URQOLINA_PULSES_SIZE 64u   /* the pulse buffer, exactly: sixteen signed 32-bit counts, low byte first */
+#define URQOLINA_LINE_MOST 80u     /* a line over 80 bytes is answered 1 */
+#define URQOLINA_CHANNELS 16u
+#define URQOLINA_CONTACTS_MOST 7u  /* closed = 1: bit 0 CW, bit 1 CCW, bit 2 HP */
+
+/* The numbers that a call hands back. */
+enum {
+    URQOLINA_OK = 0,            /* done */
+    URQOLINA_COMMAND_ERROR = 1, /* the line has no form */
+    URQOLINA_BUSY = 2,          /* a start, setting or speed selection of a driving channel */
+    URQOLINA_PARAMETER = 3,     /* the form is right, a value is outside its range */
+    URQOLINA_NG = 4,            /* local mode; A = 0; an active enabled switch ahead; no room; SPC on a stopped motor */
+    URQOLINA_WRONG_SIZE = 5,    /* a buffer of the wrong size, a channel over 15, contacts over 7 */
+    URQOLINA_NOT_SOUND = 6      /* the table is not sound */
+};
+
+/* A command's result is the number plus 256 times the length of the reply. The other calls' result is the number. */
+#define URQOLINA_NUMBER(result) ((result) & 0xffu)
+#define URQOLINA_REPLY_LENGTH(result) ((result) >> 8)
+
+/*
+ * Makes a fresh table, whatever the bytes were. Gives 0, or 5 and leaves the bytes as they were.
+ */
+uint32_t urqolina_fresh(uint8_t *table, size_t table_size);
+
+/*
+ * Takes one command line, without CR LF. The line is any bytes; it need not end in a zero.
+ *   0       the table is changed as the command says; the reply is written
+ *   1 to 4  error flag 1, 2, 4 or 8 is set in byte 2 of the table, and nothing else in it is changed; the number's text
+ *           is the reply if all-reply is on
+ *   5, 6    no byte of any buffer is written
+ * The reply stands at the front of the reply buffer, without a zero after it; the bytes past it stay as they were.
+ */
+uint32_t urqolina_command(uint8_t *table, size_t table_size, const uint8_t *line, size_t line_size, uint8_t *reply,
+                          size_t reply_size);
+
+/*
+ * Takes one reading of a channel's switches.
+ *   0     the contacts are in the channel's record, and its drive is ended if the switch of its direction is now active
+ *         and enabled
+ *   5, 6  no byte is written
+ */
+uint32_t urqolina_reading(uint8_t *table, size_t table_size, uint32_t channel, uint32_t contacts);
+
+/*
+ * Takes one tick, a millisecond.
+ *   0     every driving channel has moved; the pulse buffer holds a count for each channel, CW positive, 0 for a motor
+ *         that stands stopped when the tick comes
+ *   5, 6  no tick: no byte is written, and no pulse is given
+ */
+uint32_t urqolina_tick(uint8_t *table, size_t table_size, uint8_t *pulses, size_t pulses_size);
+
+/* The count of a channel, 0 to 15, in a pulse buffer. A count lies within -5000 and +5000. */
+static inline int32_t urqolina_count(const uint8_t *pulses, uint32_t channel)
+{
+    const uint8_t *p = pulses + 4u * channel;
+    return (int32_t)((uint32_t)p[0] | (uint32_t)p[1] << 8 | (uint32_t)p[2] << 16 | (uint32_t)p[3] << 24);
+}
+
+#ifdef __cplusplus
+}
+#endif
+
+#endif
