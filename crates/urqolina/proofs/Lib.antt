@@ -1,5 +1,3 @@
 pub mod CallLaws
-pub mod Steps
-pub mod Cases
 pub mod Refusals
 pub mod OneOutcome

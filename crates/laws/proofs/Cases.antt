@@ -6,9 +6,9 @@ use lib.ListN.{replicate}
 use Rattle.digits.specs.Bytes.{put}
 use Rattle.digits.specs.Places.{ccw}
 use Rattle.digits.specs.Text.{bytes}
 use Rattle.urqolina.specs.Calls.{freshCall, commandCall, readingCall, tickCall}
 use Rattle.urqolina.specs.Computing.{computing-urqolina}
-use Rattle.urqolina.proofs.Steps.{Step, says, reads, ticks, holds, lent, fresh, after, seen, stated}
+use Rattle.laws.proofs.Steps.{Step, says, reads, ticks, holds, lent, fresh, after, seen, stated}
 
 -- Local mode refuses starts, settings, SPC and all-reply before their values are looked at, and a line with no form before
 -- that; reads, stops, LOC, REM and the ERR family are taken. Each number leaves its flag, and ERR? tells the lowest.
