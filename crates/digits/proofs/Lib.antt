@@ -3,4 +3,3 @@ pub mod WordLaws
 pub mod PartLaws
 pub mod Signed
 pub mod PutLaws
-pub mod TextLaws

@@ -1,5 +1,4 @@
 pub mod Bytes
 pub mod Words
 pub mod Places
-pub mod Text
 pub mod Computing

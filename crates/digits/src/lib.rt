@@ -1,8 +1,6 @@
-// Numbers of the bench: words of bytes, low byte first; positions as places; numbers in digits, decimal and hex; and a few
-// choices between numbers that the other crates are written with. What they are is said in specs/.
+// Numbers of the bench: words of bytes, low byte first; positions as places; and a few choices between numbers that the other
+// crates are written with. What they are is said in specs/.
 
-pub mod decimal;
-pub mod hex;
 pub mod places;
 pub mod words;
 

@@ -8,7 +8,7 @@ use Prim.Native.String as S
 use lib.Dec.{eqb}
 use types.Run.{OneOf}
 use borrow.Author.Tests.{eq-eqb, ne-eqb}
-use Rattle.digits.specs.Text.{bytes}
+use Rattle.text.specs.Text.{bytes}
 use Rattle.line.specs.declared.Fields.{Fields}
 use Rattle.line.specs.declared.Parsed.{Parsed}
 use Rattle.line.specs.Forms.{Row, those}

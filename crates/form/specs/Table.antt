@@ -5,7 +5,7 @@ use mathlib.Core.List.{List, [], _∷_, reverse}
 use mathlib.Core.Bool.{Bool, true, false, _||_, cond}
 use lib.ListN.{getD}
 use lib.Dec.{eqb}
-use Rattle.digits.specs.Text.{same}
+use Rattle.text.specs.Text.{same}
 use Rattle.digits.specs.Words.{word}
 use Rattle.line.specs.declared.Fields.{Fields}
 use Rattle.line.specs.declared.Field.{Field}

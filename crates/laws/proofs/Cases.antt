@@ -5,7 +5,7 @@ use mathlib.Core.List.{List, [], _∷_, map}
 use lib.ListN.{replicate}
 use Rattle.digits.specs.Bytes.{put}
 use Rattle.digits.specs.Places.{ccw}
-use Rattle.digits.specs.Text.{bytes}
+use Rattle.text.specs.Text.{bytes}
 use Rattle.urqolina.specs.Calls.{freshCall, commandCall, readingCall, tickCall}
 use Rattle.urqolina.specs.Computing.{computing-urqolina}
 use Rattle.laws.proofs.Steps.{Step, says, reads, ticks, holds, lent, fresh, after, seen, stated}

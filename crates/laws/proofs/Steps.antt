@@ -9,7 +9,7 @@ use lib.Dec.{eqb}
 use Rattle.digits.specs.Bytes.{part, gather}
 use Rattle.digits.specs.Words.{wordBytes}
 use Rattle.digits.specs.Places.{countOf}
-use Rattle.digits.specs.Text.{bytes}
+use Rattle.text.specs.Text.{bytes}
 use Rattle.urqolina.specs.Calls.{freshCall, commandCall, readingCall, tickCall}
 
 -- a call, with what it must give

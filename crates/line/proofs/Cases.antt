@@ -6,7 +6,7 @@ use mathlib.Core.Bool.{true, false}
 use Prim.Native.Nat.{ℕ}
 use Prim.Native.String as S
 use lib.ListN.{replicate}
-use Rattle.digits.specs.Text.{bytes}
+use Rattle.text.specs.Text.{bytes}
 use Rattle.digits.specs.Places.{cw, ccw}
 use Rattle.line.specs.declared.Written.{Written}
 use Rattle.line.specs.declared.Start.the-variants.{Abs, Rel, Scan, Jog}

@@ -9,9 +9,9 @@ use mathlib.Core.Bool.{Bool, true, false, _&&_, _||_, cond, and-eq-true-iff}
 use lib.ListN.{length, take, drop}
 use lib.Dec.{eqb, leb}
 use borrow.Author.Tests.{leb-true, le-leb}
-use Rattle.digits.specs.Text.{isDigit, isHex, hexValue, same, digitsAtFront, numberAtFront}
-use Rattle.digits.specs.declared.decimal.Number.{Number}
-use Rattle.digits.specs.declared.decimal.Number.the-variants as N
+use Rattle.text.specs.Text.{isDigit, isHex, hexValue, same, digitsAtFront, numberAtFront}
+use Rattle.text.specs.declared.decimal.Number.{Number}
+use Rattle.text.specs.declared.decimal.Number.the-variants as N
 use Rattle.line.specs.declared.Fields.{Fields}
 use Rattle.line.specs.declared.Field.{Field}
 use Rattle.line.specs.declared.Field.the-variants.{Channel, Signed, Unsigned, Digit, Question, FourDigits, ZeroThree, Enable, Disable, End, Never}

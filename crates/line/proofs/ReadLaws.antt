@@ -8,9 +8,9 @@ use native.Mathlib.Omega.{arith}
 use lib.Dec.{leb}
 use lib.ListN.{length, drop, length-drop, List·getD-eq-default}
 use borrow.Author.Tests.{leb-true, leb-false}
-use Rattle.digits.specs.Text.{isDigit, isHex, digitsAtFront, numberAtFront}
-use Rattle.digits.specs.declared.decimal.Number.the-variants.{Read}
-use Rattle.digits.proofs.TextLaws.{between, digits-within, number-found}
+use Rattle.text.specs.Text.{isDigit, isHex, digitsAtFront, numberAtFront}
+use Rattle.text.specs.declared.decimal.Number.the-variants.{Read}
+use Rattle.text.proofs.TextLaws.{between, digits-within, number-found}
 use Rattle.line.specs.Shapes.{byteAt}
 
 -- Past the end of a line stands 0, so any other byte stands within it.

@@ -12,8 +12,8 @@ use lib.ListN.{length, take, drop, drop-of-length-le, List·getD-eq-default}
 use lib.Seq.{drop-cons, drop-length}
 use lib.Dec.{leb, ltb, eqb}
 use borrow.Author.Tests.{eqb-true, leb-true, leb-false, le-leb, lt-leb, ltb-true}
-use Rattle.digits.specs.Text.{same, isDigit, isHex, digitsAtFront, valueOf, numberAtFront}
-use Rattle.digits.specs.declared.decimal.Number.the-variants as N
+use Rattle.text.specs.Text.{same, isDigit, isHex, digitsAtFront, valueOf, numberAtFront}
+use Rattle.text.specs.declared.decimal.Number.the-variants as N
 use Rattle.line.specs.declared.Fields.{Fields}
 use Rattle.line.specs.declared.Field.{Field}
 use Rattle.line.specs.declared.Field.the-variants.{Channel, Signed, Unsigned, Digit, Question, FourDigits, ZeroThree, Enable, Disable, End, Never}

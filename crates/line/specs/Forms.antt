@@ -5,7 +5,7 @@ use mathlib.Core.List.{List, [], _∷_, _++_}
 use mathlib.Core.Bool.{Bool, cond}
 use lib.ListN.{length, take}
 use lib.Dec.{leb, eqb}
-use Rattle.digits.specs.Text.{bytes, same}
+use Rattle.text.specs.Text.{bytes, same}
 use Rattle.digits.specs.Places.{cw, ccw}
 use Rattle.line.specs.declared.Fields.{Fields}
 use Rattle.line.specs.declared.Start.{Start}

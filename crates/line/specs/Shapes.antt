@@ -6,9 +6,9 @@ use mathlib.Core.List.{List, [], _∷_}
 use mathlib.Core.Bool.{Bool, true, false, _&&_, cond}
 use lib.ListN.{drop, getD}
 use lib.Dec.{leb, eqb}
-use Rattle.digits.specs.Text.{isDigit, isHex, hexValue, digitValue, digitsAtFront, numberAtFront}
-use Rattle.digits.specs.declared.decimal.Number.{Number}
-use Rattle.digits.specs.declared.decimal.Number.the-variants.{Nothing, Read}
+use Rattle.text.specs.Text.{isDigit, isHex, hexValue, digitValue, digitsAtFront, numberAtFront}
+use Rattle.text.specs.declared.decimal.Number.{Number}
+use Rattle.text.specs.declared.decimal.Number.the-variants.{Nothing, Read}
 use Rattle.line.specs.declared.Four.{Four}
 use Rattle.line.specs.declared.Fields.{Fields}
 use Rattle.line.specs.declared.Field.{Field}

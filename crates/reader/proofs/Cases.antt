@@ -3,7 +3,7 @@ use mathlib.Core.Path.{_≡_, refl}
 use mathlib.Core.List.{[], _∷_, map}
 use Prim.Native.Nat.{ℕ}
 use Prim.Native.String as S
-use Rattle.digits.specs.Text.{bytes}
+use Rattle.text.specs.Text.{bytes}
 use Rattle.line.specs.declared.Order.the-variants.{Set}
 use Rattle.line.specs.declared.Setting.the-variants.{Select, SetSpeed}
 use Rattle.line.specs.declared.Parsed.{Parsed}

@@ -12,7 +12,7 @@ use lib.Dec.{eqb, ltb, leb}
 use borrow.Author.Tests.{eqb-true, eq-eqb, ne-eqb, lt-ltb, ltb-true, leb-true, leb-false}
 use Rattle.digits.specs.Bytes.{AllBytes, part}
 use Rattle.digits.specs.Words.{word}
-use Rattle.digits.specs.Text.{same, bytes}
+use Rattle.text.specs.Text.{same, bytes}
 use Rattle.digits.proofs.PartLaws.{append-bytes, cons-bytes, none-bytes, part-bytes}
 use Rattle.line.specs.Forms.{Row, forms, those}
 use Rattle.form.specs.Table.{packed, rowsWith, isWord, rowsBy, shapeOf, fieldsBy, shapeAfter}

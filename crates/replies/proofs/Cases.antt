@@ -3,7 +3,7 @@ use mathlib.Core.Path.{_≡_, refl}
 use mathlib.Core.List.{List, [], _∷_, map}
 use Prim.Native.Nat.{ℕ, _+_, _-_}
 use lib.ListN.{replicate}
-use Rattle.digits.specs.Text.{bytes}
+use Rattle.text.specs.Text.{bytes}
 use Rattle.digits.specs.Places.{origin, lowest, highest, cw, ccw}
 use Rattle.record.specs.declared.Motor.{Motor}
 use Rattle.record.specs.Record.{freshMotor, standing, withPlace, withSpeeds, withWiring, withSetup, withDrive}

@@ -10,10 +10,10 @@ use types.Run.{OneOf, miss}
 use borrow.Author.Tests.{leb-true, eqb-true}
 use denote.Enum.Declared.{tagOf}
 use Rattle.digits.specs.Words.{isSet}
-use Rattle.digits.specs.Text.{Wrote, bytes, hexDigit, hexByte}
+use Rattle.text.specs.Text.{Wrote, bytes, hexDigit, hexByte}
 use Rattle.digits.specs.Bytes.{put, joined}
 use Rattle.digits.proofs.PutLaws.{put-none, lay-put}
-use Rattle.digits.proofs.TextLaws.{decimal-within, signed-within}
+use Rattle.text.proofs.TextLaws.{decimal-within, signed-within}
 use Rattle.record.specs.declared.Motor.{Motor}
 use Rattle.record.specs.declared.Setup.{Setup}
 use Rattle.motor.specs.Sound.{setupInRange}

@@ -6,7 +6,7 @@ use mathlib.Core.Bool.{Bool, _&&_, not, cond}
 use lib.Dec.{eqb}
 use Rattle.digits.specs.Words.{bit, isSet}
 use Rattle.digits.specs.Places.{cw}
-use Rattle.digits.specs.Text.{bytes, digitByte, decimal, signedDecimal, hexDigit, hexByte}
+use Rattle.text.specs.Text.{bytes, digitByte, decimal, signedDecimal, hexDigit, hexByte}
 use Rattle.record.specs.declared.Setup.{Setup}
 use Rattle.record.specs.declared.Motor.{Motor}
 use Rattle.drive.specs.declared.Verdict.{Verdict}

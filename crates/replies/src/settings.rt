@@ -6,7 +6,7 @@ ghost use mathlib.Core.Path.{_≡_};
 ghost use mathlib.Core.Bool.{true};
 ghost use Prim.Native.Nat.{_≤_};
 ghost use lib.ListN.{length};
-ghost use Rattle.digits.specs.Text.{Wrote};
+ghost use Rattle.text.specs.Text.{Wrote};
 ghost use Rattle.motor.specs.Sound.{setupInRange};
 ghost use Rattle.replies.specs.Replies.{selectedText, switchesText, motorText};
 

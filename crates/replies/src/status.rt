@@ -1,18 +1,18 @@
 // The status of a channel: six bytes, and then the position, written into the rest of the buffer.
 
-use digits::decimal::write_signed;
-use digits::hex::hex_digit;
 use digits::places::CW;
 use motor::is_active;
 use motor::is_driving;
 use record::Motor;
 use record::Wiring;
+use text::decimal::write_signed;
+use text::hex::hex_digit;
 ghost use mathlib.Core.Path.{_≡_};
 ghost use mathlib.Core.List.{[], _∷_};
 ghost use Prim.Native.Nat.{_+_, _≤_};
 ghost use lib.ListN.{length};
 ghost use Rattle.digits.specs.Bytes.{put};
-ghost use Rattle.digits.specs.Text.{Wrote, hexDigit, hexByte};
+ghost use Rattle.text.specs.Text.{Wrote, hexDigit, hexByte};
 ghost use Rattle.motor.specs.Switches.{active};
 ghost use Rattle.replies.specs.Replies.{flagIf, statusV, statusHH, modeLetter, goingLetter, statusText};
 

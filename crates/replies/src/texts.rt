@@ -5,7 +5,7 @@ use drive::Verdict;
 ghost use mathlib.Core.Path.{_≡_};
 ghost use Prim.Native.Nat.{_≤_};
 ghost use lib.ListN.{length};
-ghost use Rattle.digits.specs.Text.{Wrote};
+ghost use Rattle.text.specs.Text.{Wrote};
 ghost use Rattle.line.specs.declared.HeadQuestion.the-variants.{AskAllReply};
 ghost use Rattle.replies.specs.Replies.{textOf, errorText, headText};
 

@@ -5,7 +5,7 @@ use mathlib.Core.Path.{_≡_, refl}
 use mathlib.Core.List.{[], _∷_, _++_, map}
 use lib.ListN.{replicate}
 use Rattle.digits.specs.Places.{origin}
-use Rattle.digits.specs.Text.{bytes}
+use Rattle.text.specs.Text.{bytes}
 use Rattle.script.specs.declared.Job.the-variants.{Send, Touch, Wait, Unknown}
 use Rattle.script.specs.Jobs.{linesOf, jobOf}
 use Rattle.script.specs.Output.{commandText, netsAfter, waitedText, bench}

@@ -9,9 +9,9 @@ use lib.Dec.{eqb, leb}
 use lib.ListN.{length, take, drop, getD}
 use lib.Seq.{take-length}
 use borrow.Author.Tests.{eqb-true, leb-true, le-leb, eq-eqb}
-use Rattle.digits.specs.Text.{digitsAtFront, valueOf, numberAtFront}
-use Rattle.digits.specs.declared.decimal.Number.the-variants.{Nothing, Read}
-use Rattle.digits.proofs.TextLaws.{between}
+use Rattle.text.specs.Text.{digitsAtFront, valueOf, numberAtFront}
+use Rattle.text.specs.declared.decimal.Number.the-variants.{Nothing, Read}
+use Rattle.text.proofs.TextLaws.{between}
 use Rattle.script.specs.declared.Job.the-variants.{Wait, Unknown}
 use Rattle.script.specs.Jobs.{isTicks, jobIf, waitOf, lettered, jobOf}
 

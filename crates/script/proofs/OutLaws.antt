@@ -12,9 +12,9 @@ use lib.ListN.{length, take, drop, getD, set, length-append, length-drop}
 use lib.Seq.{take-all, take-suc, length-take-le}
 use Rattle.digits.specs.Bytes.{put, gather}
 use Rattle.digits.specs.Places.{origin}
-use Rattle.digits.specs.Text.{bytes, hexDigit}
+use Rattle.text.specs.Text.{bytes, hexDigit}
 use Rattle.digits.proofs.PutLaws.{stores-put, put-after, put-length}
-use Rattle.digits.proofs.TextLaws.{signed-within}
+use Rattle.text.proofs.TextLaws.{signed-within}
 use Rattle.script.specs.Output.{replyText, signedText, netText, netTexts}
 
 -- a byte that is stored is a text of one byte

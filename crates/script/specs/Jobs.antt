@@ -6,7 +6,7 @@ use mathlib.Core.List.{List, [], _∷_}
 use mathlib.Core.Bool.{Bool, _&&_, not, cond}
 use lib.ListN.{length, getD}
 use lib.Dec.{eqb, leb}
-use Rattle.digits.specs.Text.{isDigit, digitValue, isHex, hexValue, digitsAtFront, valueOf}
+use Rattle.text.specs.Text.{isDigit, digitValue, isHex, hexValue, digitsAtFront, valueOf}
 use Rattle.script.specs.declared.Job.{Job}
 use Rattle.script.specs.declared.Job.the-variants.{Send, Touch, Wait, Unknown}
 

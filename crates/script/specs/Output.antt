@@ -9,7 +9,7 @@ use lib.Dec.{eqb}
 use Rattle.digits.specs.Bytes.{gather}
 use Rattle.digits.specs.Words.{word}
 use Rattle.digits.specs.Places.{origin, placeOf}
-use Rattle.digits.specs.Text.{bytes, decimal, signedDecimal, hexDigit}
+use Rattle.text.specs.Text.{bytes, decimal, signedDecimal, hexDigit}
 use Rattle.table.specs.Layout.{tableSize}
 use Rattle.urqolina.specs.Calls.{freshCall, commandCall, readingCall, tickCall}
 use Rattle.script.specs.declared.Job.{Job}

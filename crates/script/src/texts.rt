@@ -1,14 +1,14 @@
 // The texts that bench prints, each at the front of the buffer that the caller lends.
 
-use digits::decimal::write_decimal;
-use digits::decimal::write_signed;
-use digits::hex::hex_digit;
 use digits::places::ORIGIN;
+use text::decimal::write_decimal;
+use text::decimal::write_signed;
+use text::hex::hex_digit;
 ghost use mathlib.Core.Path.{_≡_};
 ghost use Prim.Native.Nat.{_+_, _/_, _<_, _≤_};
 ghost use lib.ListN.{length, take};
 ghost use Rattle.digits.specs.Bytes.{put};
-ghost use Rattle.digits.specs.Text.{Wrote};
+ghost use Rattle.text.specs.Text.{Wrote};
 ghost use Rattle.script.specs.Bounds.{outSize};
 ghost use Rattle.script.specs.Output.{plainText, replyText, commandText, netText, waitedText};
 

@@ -3,7 +3,7 @@ use mathlib.Core.Path.{refl}
 use Prim.Native.Nat.{_≤_}
 use lib.ListN.{length}
 use borrow.Author.Needs.{needs}
-use Rattle.digits.specs.Text.{hexByte}
+use Rattle.text.specs.Text.{hexByte}
 use Rattle.replies.specs.Replies.{headText}
 use Rattle.replies.proofs.ReplyLaws.{short, head-within}
 use Rattle.replies.proofs.write_head.Statement.{statement}

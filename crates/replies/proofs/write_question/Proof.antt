@@ -3,7 +3,7 @@ use Prim.Native.Nat.{_≤_}
 use native.Mathlib.Omega.{arith}
 use lib.ListN.{length}
 use borrow.Author.Needs.{needs}
-use Rattle.digits.proofs.TextLaws.{decimal-within}
+use Rattle.text.proofs.TextLaws.{decimal-within}
 use Rattle.replies.specs.Replies.{questionText}
 use Rattle.replies.proofs.ReplyLaws.{position-within, question-within, short}
 use Rattle.replies.proofs.write_question.Statement.{statement}

@@ -1,5 +1,5 @@
 -- `line::field_reading::hex_value` meets its contract. Assumes nothing.
-use Rattle.digits.specs.Text.{hexValue}
+use Rattle.text.specs.Text.{hexValue}
 use native.Mathlib.Omega.{arith}
 use borrow.Author.Needs.{needs}
 use Rattle.line.proofs.field_reading.hex_value.Statement.{statement}

@@ -1,7 +1,7 @@
 -- `replies::settings::write_selected` meets its contract. Assumes nothing.
 use borrow.Author.Tests.{eq-eqb, ne-eqb}
 use borrow.Author.Needs.{needs}
-use Rattle.digits.specs.Text.{bytes}
+use Rattle.text.specs.Text.{bytes}
 use Rattle.replies.specs.Replies.{selectedText}
 use Rattle.replies.proofs.settings.write_selected.Statement.{statement}
 use Rattle.replies.proofs.settings.write_selected.Tie as tie

@@ -6,7 +6,7 @@ use native.Mathlib.Omega.{arith}
 use lib.ListN.{length-set}
 use borrow.Author.Needs.{needs}
 use denote.Ref.{now}
-use Rattle.digits.specs.Text.{hexDigit, hexByte}
+use Rattle.text.specs.Text.{hexDigit, hexByte}
 use Rattle.digits.proofs.PutLaws.{stores-put}
 use Rattle.replies.specs.Replies.{statusV, statusHH}
 use Rattle.replies.proofs.status.write_flags.Statement.{statement}

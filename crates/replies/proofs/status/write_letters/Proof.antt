@@ -6,7 +6,7 @@ use native.Mathlib.Omega.{arith}
 use lib.ListN.{length-set}
 use borrow.Author.Needs.{needs}
 use denote.Ref.{now}
-use Rattle.digits.specs.Text.{hexDigit}
+use Rattle.text.specs.Text.{hexDigit}
 use Rattle.digits.proofs.PutLaws.{stores-put}
 use Rattle.replies.specs.Replies.{modeLetter, goingLetter}
 use Rattle.replies.proofs.status.write_letters.Statement.{statement}

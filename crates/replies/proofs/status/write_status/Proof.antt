@@ -5,7 +5,7 @@ use native.Mathlib.Omega.{arith}
 use lib.ListN.{length, length-take, length-drop}
 use borrow.Author.Needs.{needs}
 use denote.Ref.{now}
-use Rattle.digits.specs.Text.{hexByte}
+use Rattle.text.specs.Text.{hexByte}
 use Rattle.digits.proofs.PutLaws.{put-rest}
 use Rattle.replies.specs.Replies.{positionText, statusText}
 use Rattle.replies.proofs.ReplyLaws.{position-within, status-put}

@@ -1,7 +1,7 @@
 -- `replies::texts::write_all_reply` meets its contract. Assumes nothing.
 use borrow.Author.Tests.{eq-eqb, ne-eqb}
 use borrow.Author.Needs.{needs}
-use Rattle.digits.specs.Text.{bytes}
+use Rattle.text.specs.Text.{bytes}
 use Rattle.replies.specs.Replies.{headText}
 use Rattle.replies.proofs.texts.write_all_reply.Statement.{statement}
 use Rattle.replies.proofs.texts.write_all_reply.Tie as tie

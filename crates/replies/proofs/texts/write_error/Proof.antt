@@ -1,6 +1,6 @@
 -- `replies::texts::write_error` meets its contract. Assumes nothing.
 use borrow.Author.Needs.{needs}
-use Rattle.digits.specs.Text.{bytes}
+use Rattle.text.specs.Text.{bytes}
 use Rattle.replies.specs.Replies.{errorText}
 use Rattle.replies.proofs.texts.write_error.Statement.{statement}
 use Rattle.replies.proofs.texts.write_error.Tie as tie

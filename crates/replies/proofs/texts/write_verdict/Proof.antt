@@ -1,7 +1,7 @@
 -- `replies::texts::write_verdict` meets its contract. Assumes nothing.
 use borrow.Author.Needs.{needs}
 use denote.Ref.{now}
-use Rattle.digits.specs.Text.{bytes}
+use Rattle.text.specs.Text.{bytes}
 use Rattle.replies.specs.Replies.{textOf}
 use Rattle.replies.proofs.ReplyLaws.{causes-share, wrote-none}
 use Rattle.replies.proofs.texts.write_verdict.Statement.{statement}

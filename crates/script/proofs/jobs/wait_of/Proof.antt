@@ -7,7 +7,7 @@ use lib.Dec.{eqb, leb}
 use lib.ListN.{length, getD}
 use denote.Ref.{now}
 use borrow.Author.Needs.{needs}
-use Rattle.digits.proofs.TextLaws.{digits-within}
+use Rattle.text.proofs.TextLaws.{digits-within}
 use Rattle.script.proofs.JobLaws.{read-parts, wait-read, wait-nothing, ticks-within}
 use Rattle.script.proofs.jobs.wait_of.Statement.{statement}
 use Rattle.script.proofs.jobs.wait_of.Tie as tie

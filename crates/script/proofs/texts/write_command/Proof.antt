@@ -8,7 +8,7 @@ use denote.Ref.{now}
 use borrow.Rule.Slice.PartMut.{same-len-mid}
 use borrow.Author.Needs.{needs}
 use Rattle.digits.proofs.PutLaws.{put-rest}
-use Rattle.digits.proofs.TextLaws.{decimal-within}
+use Rattle.text.proofs.TextLaws.{decimal-within}
 use Rattle.script.specs.Output.{plainText, replyText, commandText}
 use Rattle.script.proofs.OutLaws.{text-byte-text, reply-within}
 use Rattle.script.proofs.texts.write_command.Statement.{statement}

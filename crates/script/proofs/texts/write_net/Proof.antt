@@ -11,9 +11,9 @@ use borrow.Rule.Slice.PartMut.{same-len-mid}
 use borrow.Author.Needs.{needs}
 use Rattle.digits.specs.Bytes.{put}
 use Rattle.digits.specs.Places.{origin}
-use Rattle.digits.specs.Text.{hexDigit}
+use Rattle.text.specs.Text.{hexDigit}
 use Rattle.digits.proofs.PutLaws.{put-none, put-rest, stores-put}
-use Rattle.digits.proofs.TextLaws.{signed-within}
+use Rattle.text.proofs.TextLaws.{signed-within}
 use Rattle.script.specs.Output.{signedText, netText}
 use Rattle.script.proofs.OutLaws.{text-more}
 use Rattle.script.proofs.texts.write_net.Statement.{statement}

@@ -1,7 +1,7 @@
 -- `script::texts::write_number` meets its contract. Assumes nothing.
 use native.Mathlib.Omega.{arith}
 use borrow.Author.Needs.{needs}
-use Rattle.digits.proofs.TextLaws.{decimal-within}
+use Rattle.text.proofs.TextLaws.{decimal-within}
 use Rattle.script.proofs.texts.write_number.Statement.{statement}
 use Rattle.script.proofs.texts.write_number.Tie as tie
 

@@ -6,7 +6,7 @@ use lib.ListN.{length, take}
 use lib.Seq.{length-take-le}
 use denote.Ref.{now}
 use borrow.Author.Needs.{needs}
-use Rattle.digits.specs.Text.{bytes}
+use Rattle.text.specs.Text.{bytes}
 use Rattle.script.specs.Output.{replyText}
 use Rattle.script.proofs.OutLaws.{set-put, reply-some}
 use Rattle.script.proofs.texts.write_reply.Statement.{statement}

@@ -8,10 +8,10 @@ use denote.Ref.{now}
 use borrow.Rule.Slice.PartMut.{same-len-mid}
 use borrow.Author.Needs.{needs}
 use Rattle.digits.specs.Bytes.{put}
-use Rattle.digits.specs.Text.{Wrote}
+use Rattle.text.specs.Text.{Wrote}
 use Rattle.digits.specs.Places.{origin}
 use Rattle.digits.proofs.PutLaws.{put-none, put-rest, put-after}
-use Rattle.digits.proofs.TextLaws.{decimal-within}
+use Rattle.text.proofs.TextLaws.{decimal-within}
 use Rattle.script.specs.Output.{netText, netTexts, waitedText, plainText}
 use Rattle.script.proofs.OutLaws.{text-more, nets-more, nets-none, net-within, within-any}
 use Rattle.script.proofs.texts.write_waited.Statement.{statement}

@@ -1,0 +1,23 @@
+// Hex digits, in capitals.
+ghost use mathlib.Core.Path.{_≡_};
+ghost use Prim.Native.Nat.{_%_, _≤_};
+ghost use lib.ListN.{length};
+ghost use Rattle.digits.specs.Bytes.{put};
+ghost use Rattle.text.specs.Text.{hexDigit, hexByte};
+
+// The digit of the low half of a byte.
+pub fn hex_digit(n: u8) -> u8
+    ensures { λ r. ⌜ r ≡ hexDigit (n % 16) ⌝ }
+{
+    let d = n % 16;
+    if d < 10 { b'0' + d } else { b'A' + (d - 10) }
+}
+
+// A byte in two digits, at the front of the buffer.
+pub fn write_hex(out: &mut [u8], n: u8)
+    requires { ⌜ 2 ≤ length (now out) ⌝ }
+    ensures { λ _. ⌜ now (out .exit) ≡ put (now (out .entry)) 0 (hexByte n) ⌝ }
+{
+    out[0] = hex_digit(n / 16);
+    out[1] = hex_digit(n);
+}
