@@ -1,3 +1,4 @@
+-- `drive::read_switches` meets its contract. Assumes nothing.
 use Rattle.drive.specs.Drives.{contacted}
 use Rattle.motor.specs.Sound.{driving}
 use Rattle.motor.specs.Switches.{blocked}
@@ -25,14 +26,16 @@ returns : tie.Need-returns
 unfolding switchRead
 returns c =
     let a = c .before .before .before .before .before .args in
-    let hit : (driving (a .m) && blocked (a .m .drive .going) (contacted (a .m) (a .contacts))) ≡ true = cc in
+    let hit : (driving (a .m) && blocked (a .m .drive .going) (contacted (a .m) (a .contacts))) ≡ true =
+    rw (← c .before .before .before .before .with-contacts .ensures, ← c .before .before .before .is-driving .ensures, ← c .before .before .is-blocked .ensures) (c .before .if1 .taken) in
     rw (hit, c .end-drive .ensures, c .before .before .before .before .with-contacts .ensures)
 
 returns-2 : tie.Need-returns-2
 unfolding switchRead
 returns-2 c =
     let a = c .before .before .before .before .args in
-    let free : (driving (a .m) && blocked (a .m .drive .going) (contacted (a .m) (a .contacts))) ≡ false = cc in
+    let free : (driving (a .m) && blocked (a .m .drive .going) (contacted (a .m) (a .contacts))) ≡ false =
+    rw (← c .before .before .before .with-contacts .ensures, ← c .before .before .is-driving .ensures, ← c .before .is-blocked .ensures) (c .if1 .left) in
     rw (free, c .before .before .before .with-contacts .ensures)
 
 pub read-switches-spec : {M : Type 1} → statement M

@@ -15,7 +15,7 @@ drive-on-requires c κs = search needs
 
 returns : tie.Need-returns
 unfolding tickMotor
-returns c = rw (← c .before .before .before .is-driving .ensures, c .before .before .if1 .taken) (cc (c .drive-on .ensures, c .before .given-pulses .ensures))
+returns c = rw (← c .before .before .before .is-driving .ensures, c .before .before .if1 .taken) (rw (c .drive-on .ensures, c .before .given-pulses .ensures))
 
 returns-2 : tie.Need-returns-2
 unfolding tickMotor
