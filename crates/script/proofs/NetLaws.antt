@@ -12,7 +12,7 @@ use Rattle.digits.proofs.WordLaws.{word-bytes, word-bytes-length}
 use Rattle.digits.specs.Bytes.{part, every, allZero}
 use Rattle.digits.specs.Words.{word, wordBytes}
 use Rattle.digits.specs.Places.{origin, placeOf, cw, countOf}
-use Rattle.script.specs.Output.{netsAfter}
+use Rattle.script.specs.Output.{Waited, netsAfter, tickOf, waited}
 use Rattle.script.specs.Bounds.{Near, NetsWithin, CountsWithin}
 
 -- the place of a channel's count
@@ -135,3 +135,9 @@ words-within test f b h (r ∷ rs) e zero =
 words-within test f b h (r ∷ rs) e (suc c) =
     let both = and-eq-true-iff (test r) (every test rs) .0 e in
     rw (next-words (f r) (flatMap (λ r. wordBytes 4 (f r)) rs) c) (words-within test f b h rs (both .1) c)
+
+-- one of the ticks that are left
+pub waited-more : (n : ℕ) (w : Waited) → 0 < n → waited n w ≡ waited (n - 1) (tickOf w)
+unfolding waited
+waited-more zero w h = absurd (omega arith)
+waited-more (suc n) w h = let e : suc n - 1 ≡ n = omega arith in rw e

@@ -27,6 +27,12 @@ text-more t x y n e h =
     let p : n ≡ 0 + length x = rw zero-add e in
     rw p (put-after t x y 0 (omega arith))
 
+-- a byte right after it
+pub text-byte : (t x : List ℕ) (v n : ℕ) → n ≡ length x → n < length t → set (put t 0 x) n v ≡ put t 0 (x ++ (v ∷ []))
+text-byte t x v n e h =
+    let l : length (put t 0 x) ≡ length t = put-length t 0 x (omega arith) in
+    rw (set-put (put t 0 x) n v (omega arith)) (text-more t x (v ∷ []) n e (omega arith))
+
 -- a text right after it and a byte
 pub text-byte-text : (t x y : List ℕ) (v n : ℕ) → n ≡ length x → n < length t
     → put (set (put t 0 x) n v) (n + 1) y ≡ put t 0 (x ++ (v ∷ y))

@@ -26,6 +26,10 @@ CountsWithin b pulses = (c : ℕ) → Near b (placeOf (word (part pulses (4 * c)
 abbrev pub mostCount : ℕ
 mostCount = 5000
 
+-- "1..10000 ticks"
+abbrev pub mostTicks : ℕ
+mostTicks = 10000
+
 -- before the last of 10000 ticks, the 9999 others have given no more than this
 abbrev pub mostNet : ℕ
 mostNet = 49995000

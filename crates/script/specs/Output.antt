@@ -2,6 +2,7 @@
 -- for T, per channel with a nonzero net, a space, x, colon, signed net. Any other line prints `?`."
 use Prim.Native.Char.{code}
 use Prim.Native.Nat.{ℕ, zero, suc, _+_, _-_, _/_, _%_}
+use mathlib.Core.Path.{_≡_}
 use mathlib.Core.List.{List, [], _∷_, _++_}
 use mathlib.Core.Bool.{cond}
 use lib.ListN.{take, drop, getD, replicate}
@@ -9,7 +10,7 @@ use lib.Dec.{eqb}
 use Rattle.digits.specs.Bytes.{gather}
 use Rattle.digits.specs.Words.{word}
 use Rattle.digits.specs.Places.{origin, placeOf}
-use Rattle.text.specs.Text.{bytes, decimal, signedDecimal, hexDigit}
+use Rattle.text.specs.Text.{Wrote, bytes, decimal, signedDecimal, hexDigit}
 use Rattle.table.specs.Layout.{tableSize}
 use Rattle.urqolina.specs.Calls.{freshCall, commandCall, readingCall, tickCall}
 use Rattle.script.specs.declared.Job.{Job}
@@ -20,6 +21,11 @@ use Rattle.script.specs.Jobs.{linesOf, jobOf}
 pub record Printed : Type 0 where
   pub table : List ℕ
   pub text : List ℕ
+
+-- It is left and printed: the table after is p's, and p's text stands at the front of the buffer, r bytes long.
+pub record Leaves (p : Printed) (after out₀ out : List ℕ) (r : ℕ) : Type 0 where
+  pub table : after ≡ p .table
+  pub text : Wrote out₀ out (p .text) r
 
 -- "Numbers that a program prints itself (not replies) are decimal without leading zeros"
 abbrev pub plainText : ℕ → List ℕ

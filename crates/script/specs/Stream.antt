@@ -3,10 +3,12 @@
 -- is printed so is what bench prints.
 use Prim.Native.Char.{code}
 use Prim.Native.Nat.{ℕ}
+use mathlib.Core.Path.{_≡_}
 use mathlib.Core.List.{List, [], _∷_, _++_}
 use mathlib.Core.Bool.{cond}
 use lib.ListN.{length, take}
 use lib.Dec.{eqb, ltb}
+use Rattle.text.specs.Text.{Wrote}
 use Rattle.script.specs.Jobs.{jobOf}
 use Rattle.script.specs.Output.{Printed, jobDone}
 
@@ -34,6 +36,12 @@ pub record Stepped : Type 0 where
   pub held : List ℕ
   pub text : List ℕ
 
+-- It is left and printed: the table after and what is held are s's, and its text stands at the front of the buffer, r bytes long.
+pub record Takes (s : Stepped) (after kept out₀ out : List ℕ) (r : ℕ) : Type 0 where
+  pub table : after ≡ s .table
+  pub held : kept ≡ s .held
+  pub text : Wrote out₀ out (s .text) r
+
 -- a line feed ends the line, and nothing is held of the next one yet; any other byte is one more of the line
 unfoldable pub byteRead : List ℕ → List ℕ → ℕ → Stepped
 byteRead t held b =
@@ -53,3 +61,9 @@ streamed t held [] = endRead t held
 streamed t held (b ∷ s) =
     let r = byteRead t held b in
     r .text ++ streamed (r .table) (r .held) s
+
+-- Some bytes are read: whatever follows them, all that is printed is what is written by now, and then what is printed from here
+-- for the bytes that are left.
+abbrev pub Prints : (t held bytes written t₁ held₁ left : List ℕ) → Type 0
+Prints t held bytes written t₁ held₁ left =
+    (rest : List ℕ) → streamed t held (bytes ++ rest) ≡ written ++ streamed t₁ held₁ (left ++ rest)

@@ -1,12 +1,12 @@
 // What a line of a script asks for.
 
 use crate::Job;
-use line::field_reading::hex_value;
-use line::field_reading::is_hex;
 use text::decimal::Number;
 use text::decimal::digit_value;
 use text::decimal::is_digit;
 use text::decimal::number_at;
+use line::field_reading::hex_value;
+use line::field_reading::is_hex;
 ghost use mathlib.Core.Path.{_≡_};
 ghost use Rattle.script.specs.Jobs.{isContacts, isTicks, touchOf, waitOf, lettered, jobOf};
 

@@ -1,9 +1,9 @@
 // The texts that bench prints, each at the front of the buffer that the caller lends.
 
-use digits::places::ORIGIN;
 use text::decimal::write_decimal;
 use text::decimal::write_signed;
 use text::hex::hex_digit;
+use digits::places::ORIGIN;
 ghost use mathlib.Core.Path.{_≡_};
 ghost use Prim.Native.Nat.{_+_, _/_, _<_, _≤_};
 ghost use lib.ListN.{length, take};

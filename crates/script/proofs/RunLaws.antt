@@ -1,0 +1,167 @@
+-- What running a line goes by: how long a text is, and what the jobs of a line keep within. Assumes nothing.
+use Prim.Native.Char.{code}
+use Prim.Native.Nat.{ℕ, zero, suc, _+_, _*_, _/_, _%_, _≤_, _<_}
+use mathlib.Core.Path.{_≡_, refl}
+use mathlib.Core.List.{List, [], _∷_, _++_}
+use mathlib.Core.Bool.{Bool, true, false, _&&_, cond}
+use native.Mathlib.Omega.{arith}
+use lib.Dec.{eqb, leb}
+use lib.ListN.{length, take, drop, getD, replicate, length-append, length-take}
+use Rattle.digits.specs.Bytes.{gather}
+use Rattle.digits.specs.Places.{origin}
+use Rattle.text.specs.Text.{bytes, digitValue, isHex, hexValue, digitsAtFront, valueOf}
+use Rattle.text.proofs.TextLaws.{decimal-within}
+use Rattle.drive.specs.declared.Verdict.{Verdict}
+use Rattle.drive.specs.declared.Verdict.the-variants.{Done, NoForm, WrongSize, NotSound}
+use Rattle.drive.specs.Numbers.{numberOf}
+use Rattle.line.specs.declared.Order.{Order}
+use Rattle.line.specs.declared.Order.the-variants.{Go, Stop, StopAll, ChangeSpeed, Set, Ask, Mode, AllReply, AskHead, ClearErrors, ClearError}
+use Rattle.line.specs.declared.Parsed.{Parsed}
+use Rattle.line.specs.declared.Parsed.the-variants.{Is, Nothing}
+use Rattle.line.specs.Forms.{orderOf}
+use Rattle.replies.proofs.ReplyLaws.{echo-within, head-within, question-within}
+use Rattle.table.specs.Layout.{tableSize, mode, allReply, errors, motorAt}
+use Rattle.table.specs.Sound.{soundTable}
+use Rattle.commands.specs.Answers.{answer}
+use Rattle.commands.specs.Judging.{judge}
+use Rattle.commands.specs.Changing.{changed, flagged}
+use Rattle.urqolina.specs.Calls.{CommandAfter, refused, obeyed, taken, commandCall, readingCall}
+use Rattle.urqolina.proofs.CallLaws.{number-most}
+use Rattle.script.specs.declared.Job.{Job}
+use Rattle.script.specs.declared.Job.the-variants.{Send, Touch, Wait, Unknown}
+use Rattle.script.specs.Jobs.{isContacts, isTicks, jobIf, touchOf, waitOf, lettered, jobOf}
+use Rattle.script.specs.Bounds.{mostTicks}
+use Rattle.script.specs.Output.{plainText, commandText, sent, touched, netTexts, waitedText, ticked, jobDone}
+use Rattle.script.specs.Stream.{lineDone, endRead}
+use Rattle.script.proofs.JobLaws.{ticks-within}
+use Rattle.script.proofs.OutLaws.{reply-within, net-within}
+
+-- No reply is longer than 17 bytes, whatever the table, the line and the buffer.
+answer-within : (t : List ℕ) (o : Order) → length (answer t o) ≤ 17
+unfolding answer
+answer-within t (Go x s) = echo-within (allReply t) Done
+answer-within t (Stop x e) = echo-within (allReply t) Done
+answer-within t (StopAll e) = echo-within (allReply t) Done
+answer-within t (ChangeSpeed x v) = echo-within (allReply t) Done
+answer-within t (Set x s) = echo-within (allReply t) Done
+answer-within t (Ask x q) = question-within (mode t) x (motorAt t x) q
+answer-within t (Mode k) = echo-within (allReply t) Done
+answer-within t (AllReply k) = echo-within (allReply t) Done
+answer-within t (AskHead q) = head-within (allReply t) (errors t) q
+answer-within t ClearErrors = echo-within (allReply t) Done
+answer-within t (ClearError e) = echo-within (allReply t) Done
+
+refused-within : (t : List ℕ) (v : Verdict) (reply : List ℕ) → refused t v reply .result / 256 ≤ 17
+unfolding refused
+refused-within t v reply = omega (arith, number-most v, echo-within (allReply (flagged t v)) v)
+
+obeyed-within : (t : List ℕ) (o : Order) (reply : List ℕ) → obeyed t o reply .result / 256 ≤ 17
+unfolding obeyed
+obeyed-within t o reply = omega (arith, number-most Done, answer-within (changed t o) o)
+
+taken-within : (t : List ℕ) (p : Parsed) (reply : List ℕ) → taken t p reply .result / 256 ≤ 17
+unfolding taken
+taken-within t Nothing reply = refused-within t NoForm reply
+taken-within t (Is o) reply = go (eqb (numberOf (judge t o)) 0)
+  where
+    go : (b : Bool) → cond b (obeyed t o reply) (refused t (judge t o) reply) .result / 256 ≤ 17
+    go true = obeyed-within t o reply
+    go false = refused-within t (judge t o) reply
+
+pub command-within : (t line reply : List ℕ) → commandCall t line reply .result / 256 ≤ 17
+unfolding commandCall numberOf
+command-within t line reply = go (eqb (length t) tableSize && leb 32 (length reply)) (soundTable t)
+  where
+    after : Bool → Bool → CommandAfter
+    after sizes sound =
+        let v = cond sizes (cond sound Done NotSound) WrongSize in
+        cond (eqb (numberOf v) 0)
+        (taken t (orderOf line) reply)
+        (record { result = numberOf v; table = t; reply = reply })
+
+    go : (sizes sound : Bool) → after sizes sound .result / 256 ≤ 17
+    go true true = taken-within t (orderOf line) reply
+    go true false = omega arith
+    go false sound = omega arith
+
+-- The number takes ten bytes at most, and a net fourteen.
+plain-within : (n : ℕ) → length (plainText n) ≤ 10
+plain-within n = decimal-within 1 n (omega arith)
+
+nets-within : (nets : List ℕ) (k : ℕ) → length (netTexts nets k) ≤ 14 * k
+unfolding gather
+nets-within nets zero = omega arith
+nets-within nets (suc k) = rw length-append (omega (arith, nets-within nets k, net-within k (getD nets k origin)))
+
+command-short : (result : ℕ) (reply : List ℕ) → result / 256 ≤ 17 → length (commandText result reply) ≤ 234
+unfolding commandText
+command-short result reply h =
+    rw length-append
+    (omega (arith, plain-within (result % 256), reply-within (take (result / 256) reply), length-take (result / 256) reply))
+
+waited-short : (result : ℕ) (nets : List ℕ) → length (waitedText result nets) ≤ 234
+unfolding waitedText
+waited-short result nets = rw length-append (omega (arith, plain-within result, nets-within nets 16))
+
+-- So there is room in the buffer for the text of any job, and its line feed.
+pub job-within : (t line : List ℕ) (j : Job) → length (jobDone t line j .text) ≤ 234
+unfolding sent touched ticked bytes
+job-within t line Send = command-short _ _ (command-within t (drop 2 line) (replicate 32 0))
+job-within t line (Touch c n) = omega (arith, plain-within (readingCall t c n .result))
+job-within t line (Wait n) = waited-short _ _
+job-within t line Unknown = omega arith
+
+-- A line that sends a command has its letter and its blank.
+pub send-two : (s : List ℕ) → jobOf s ≡ Send → 2 ≤ length s
+unfolding jobOf
+send-two [] e = let z : _≡_ {A = ℕ} 0 1 = cc in absurd (omega arith)
+send-two (k ∷ []) e = let z : _≡_ {A = ℕ} 0 1 = cc in absurd (omega arith)
+send-two (k ∷ b ∷ s) e = omega arith
+
+-- A line that waits has 10000 ticks at most.
+touch-waits : (s : List ℕ) (n : ℕ) → touchOf s ≡ Wait n → ⊥
+unfolding touchOf
+touch-waits s n e =
+    go (eqb (length s) 3 && isHex (getD s 0 0) && eqb (getD s 1 0) (code " ") && isContacts (getD s 2 0)) e
+  where
+    go : (t : Bool) → jobIf t (Touch (hexValue (getD s 0 0)) (digitValue (getD s 2 0))) ≡ Wait n → ⊥
+    go true e = let z : _≡_ {A = ℕ} 0 1 = cc in omega arith
+    go false e = let z : _≡_ {A = ℕ} 0 1 = cc in omega arith
+
+wait-few : (s : List ℕ) (n : ℕ) → waitOf s ≡ Wait n → n ≤ mostTicks
+unfolding waitOf
+wait-few s n e =
+    go (leb 1 (length s) && leb (length s) 5 && eqb (digitsAtFront s) (length s) && isTicks (getD s 0 0) (valueOf s)) refl e
+  where
+    go : (t : Bool) → (leb 1 (length s) && leb (length s) 5 && eqb (digitsAtFront s) (length s) && isTicks (getD s 0 0) (valueOf s)) ≡ t
+        → jobIf t (Wait (valueOf s)) ≡ Wait n → n ≤ mostTicks
+    go true p e =
+        let v : n ≡ valueOf s = cc in
+        omega (arith, ticks-within (leb 1 (length s) && leb (length s) 5 && eqb (digitsAtFront s) (length s)) (getD s 0 0) (valueOf s) p)
+    go false p e = let z : _≡_ {A = ℕ} 0 1 = cc in absurd (omega arith)
+
+lettered-few : (k : ℕ) (s : List ℕ) (n : ℕ) → lettered k s ≡ Wait n → n ≤ mostTicks
+unfolding lettered
+lettered-few k s n e = go (eqb k (code "C")) (eqb k (code "S")) (eqb k (code "T")) e
+  where
+    go : (a b c : Bool) → cond a Send (cond b (touchOf s) (cond c (waitOf s) Unknown)) ≡ Wait n → n ≤ mostTicks
+    go true b c e = let z : _≡_ {A = ℕ} 0 1 = cc in absurd (omega arith)
+    go false true c e = absurd (touch-waits s n e)
+    go false false true e = wait-few s n e
+    go false false false e = let z : _≡_ {A = ℕ} 0 1 = cc in absurd (omega arith)
+
+pub waits-few : (s : List ℕ) (n : ℕ) → jobOf s ≡ Wait n → n ≤ mostTicks
+unfolding jobOf
+waits-few [] n e = let z : _≡_ {A = ℕ} 0 1 = cc in absurd (omega arith)
+waits-few (k ∷ []) n e = let z : _≡_ {A = ℕ} 0 1 = cc in absurd (omega arith)
+waits-few (k ∷ b ∷ s) n e = go (eqb b (code " ")) e
+  where
+    go : (t : Bool) → jobIf t (lettered k s) ≡ Wait n → n ≤ mostTicks
+    go true e = lettered-few k s n e
+    go false e = let z : _≡_ {A = ℕ} 0 1 = cc in absurd (omega arith)
+
+-- At the end a line that has a byte is done as any other.
+pub end-some : (t s : List ℕ) → 0 < length s → endRead t s ≡ lineDone t s .text
+unfolding endRead
+end-some t [] h = absurd (omega arith)
+end-some t (b ∷ s) h = refl

@@ -1,0 +1,84 @@
+// bench as it reads: a byte of the input at a time, and the end.
+
+use crate::holding::keep;
+use crate::running::run_line;
+ghost use mathlib.Core.Path.{_≡_};
+ghost use Prim.Native.Nat.{_<_, _≤_};
+ghost use lib.ListN.{length, take, drop};
+ghost use Rattle.text.specs.Text.{Wrote};
+ghost use Rattle.script.specs.Bounds.{outSize};
+ghost use Rattle.script.specs.Stream.{Takes, Prints, heldSize, byteRead, endRead};
+
+// What a byte leaves: how many bytes of the line are held, and how many are written.
+pub struct Taken {
+    pub held: usize,
+    pub count: usize,
+}
+
+// One byte of the input.
+pub fn take_byte(table: &mut [u8], line: &mut [u8], held: usize, b: u8, out: &mut [u8]) -> Taken
+    requires { ⌜ (length (now line) ≡ heldSize) × (held ≤ heldSize) × (length (now out) ≡ outSize) ⌝ }
+    ensures { λ r. ⌜ Takes (byteRead (now (table .entry)) (take held (now (line .entry))) b) (now (table .exit)) (take (r .held) (now (line .exit))) (now (out .entry)) (now (out .exit)) (r .count) × (r .held ≤ heldSize) ⌝ }
+{
+    if b == b'\n' {
+        let count = run_line(table, &line[..held], out);
+        Taken {
+            held: 0,
+            count: count,
+        }
+    } else {
+        Taken {
+            held: keep(line, held, b),
+            count: 0,
+        }
+    }
+}
+
+// How far a run of bytes got: how many bytes of the line are held, how many of the run are read, and how many are written.
+pub struct Run {
+    pub held: usize,
+    pub read: usize,
+    pub count: usize,
+}
+
+// How many bytes a byte's text may take.
+const ROOM: usize = 256;
+
+// A run of bytes, as far as there is room for the text of one more.
+pub fn take_run(table: &mut [u8], line: &mut [u8], held: usize, bytes: &[u8], out: &mut [u8]) -> Run
+    requires { ⌜ (length (now line) ≡ heldSize) × (held ≤ heldSize) × (outSize ≤ length (now out)) ⌝ }
+    ensures { λ r. ⌜ Prints (now (table .entry)) (take held (now (line .entry))) (now (bytes .entry)) (take (r .count) (now (out .exit))) (now (table .exit)) (take (r .held) (now (line .exit))) (drop (r .read) (now (bytes .entry))) ⌝ }
+    ensures { λ r. ⌜ (r .held ≤ heldSize) × (r .count ≤ length (now (out .entry))) × (r .read ≤ length (now (bytes .entry))) × (0 < length (now (bytes .entry)) → 0 < r .read) ⌝ }
+{
+    let mut kept = held;
+    let mut read: usize = 0;
+    let mut count: usize = 0;
+    while read < bytes.len() && count <= out.len() - ROOM {
+        let t = take_byte(
+            table,
+            line,
+            kept,
+            bytes[read],
+            &mut out[count..count + ROOM],
+        );
+        kept = t.held;
+        count += t.count;
+        read += 1;
+    }
+    Run {
+        held: kept,
+        read: read,
+        count: count,
+    }
+}
+
+// The end of the input.
+pub fn take_end(table: &mut [u8], line: &[u8], held: usize, out: &mut [u8]) -> usize
+    requires { ⌜ (length (now line) ≡ heldSize) × (held ≤ heldSize) × (length (now out) ≡ outSize) ⌝ }
+    ensures { λ r. ⌜ Wrote (now (out .entry)) (now (out .exit)) (endRead (now (table .entry)) (take held (now (line .entry)))) r × (r ≤ outSize) ⌝ }
+{
+    if held == 0 {
+        return 0;
+    }
+    run_line(table, &line[..held], out)
+}
