@@ -14,7 +14,7 @@ use urqolina::urqolina_fresh;
 ghost use mathlib.Core.Path.{_≡_};
 ghost use Prim.Native.Nat.{_≤_};
 ghost use lib.ListN.{length};
-ghost use Rattle.script.specs.Stream.{heldSize};
+ghost use Rattle.jobs.specs.Holding.{heldSize};
 
 // What stands between two reads: how many bytes of a line are held, and whether there is more to read.
 struct Turn {

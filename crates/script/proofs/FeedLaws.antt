@@ -10,8 +10,9 @@ use lib.Dec.{eqb}
 use lib.ListN.{length, take, drop, getD, length-append}
 use lib.Seq.{drop-cons, take-at, length-take-le}
 use Rattle.digits.specs.Bytes.{put}
-use Rattle.script.specs.Jobs.{jobOf}
-use Rattle.script.specs.Stream.{Stepped, Prints, kept, lineDone, byteRead, streamed}
+use Rattle.jobs.specs.Jobs.{jobOf}
+use Rattle.jobs.specs.Holding.{kept}
+use Rattle.script.specs.Stream.{Stepped, Prints, lineDone, byteRead, streamed}
 use Rattle.script.proofs.RunLaws.{job-within}
 
 -- nothing is read yet

@@ -1,8 +1,8 @@
 -- What running a line goes by: how long a text is, and what the jobs of a line keep within. Assumes nothing.
 use Prim.Native.Char.{code}
-use Prim.Native.Nat.{ℕ, zero, suc, _+_, _*_, _/_, _%_, _≤_, _<_}
+use Prim.Native.Nat.{ℕ, zero, suc, _*_, _/_, _%_, _≤_, _<_}
 use mathlib.Core.Path.{_≡_, refl}
-use mathlib.Core.List.{List, [], _∷_, _++_}
+use mathlib.Core.List.{List, [], _∷_}
 use mathlib.Core.Bool.{Bool, true, false, _&&_, cond}
 use native.Mathlib.Omega.{arith}
 use lib.Dec.{eqb, leb}
@@ -27,14 +27,15 @@ use Rattle.commands.specs.Judging.{judge}
 use Rattle.commands.specs.Changing.{changed, flagged}
 use Rattle.urqolina.specs.Calls.{CommandAfter, refused, obeyed, taken, commandCall, readingCall}
 use Rattle.urqolina.proofs.CallLaws.{number-most}
-use Rattle.script.specs.declared.Job.{Job}
-use Rattle.script.specs.declared.Job.the-variants.{Send, Touch, Wait, Unknown}
-use Rattle.script.specs.Jobs.{isContacts, isTicks, jobIf, touchOf, waitOf, lettered, jobOf}
-use Rattle.script.specs.Bounds.{mostTicks}
-use Rattle.script.specs.Output.{plainText, commandText, sent, touched, netTexts, waitedText, ticked, jobDone}
+use Rattle.jobs.specs.declared.Job.{Job}
+use Rattle.jobs.specs.declared.Job.the-variants.{Send, Touch, Wait, Unknown}
+use Rattle.jobs.specs.Jobs.{isContacts, isTicks, jobIf, touchOf, waitOf, lettered, jobOf}
+use Rattle.jobs.specs.Bounds.{mostTicks}
+use Rattle.jobs.specs.Texts.{plainText, commandText, netTexts, waitedText}
+use Rattle.script.specs.Output.{Waited, tickOf, waited, sent, touched, ticked, jobDone}
 use Rattle.script.specs.Stream.{lineDone, endRead}
-use Rattle.script.proofs.JobLaws.{ticks-within}
-use Rattle.script.proofs.OutLaws.{reply-within, net-within}
+use Rattle.jobs.proofs.JobLaws.{ticks-within}
+use Rattle.jobs.proofs.OutLaws.{reply-within, net-within}
 
 -- No reply is longer than 17 bytes, whatever the table, the line and the buffer.
 answer-within : (t : List ℕ) (o : Order) → length (answer t o) ≤ 17
@@ -165,3 +166,9 @@ pub end-some : (t s : List ℕ) → 0 < length s → endRead t s ≡ lineDone t 
 unfolding endRead
 end-some t [] h = absurd (omega arith)
 end-some t (b ∷ s) h = refl
+
+-- one of the ticks that are left
+pub waited-more : (n : ℕ) (w : Waited) → 0 < n → waited n w ≡ waited (n - 1) (tickOf w)
+unfolding waited
+waited-more zero w h = absurd (omega arith)
+waited-more (suc n) w h = let e : suc n - 1 ≡ n = omega arith in rw e

@@ -12,11 +12,12 @@ use borrow.Author.Tests.{leb-true, leb-false, lt-leb, le-leb, lt-ltb, ne-eqb}
 use Rattle.line.proofs.Laws.{too-long}
 use Rattle.table.specs.Layout.{tableSize}
 use Rattle.urqolina.specs.Calls.{commandCall, freshCall}
-use Rattle.script.specs.declared.Job.{Job}
-use Rattle.script.specs.declared.Job.the-variants.{Send, Touch, Wait, Unknown}
-use Rattle.script.specs.Jobs.{jobIf, joined, linesOf, touchOf, waitOf, lettered, jobOf}
+use Rattle.jobs.specs.declared.Job.{Job}
+use Rattle.jobs.specs.declared.Job.the-variants.{Send, Touch, Wait, Unknown}
+use Rattle.jobs.specs.Jobs.{jobIf, joined, linesOf, touchOf, waitOf, lettered, jobOf}
 use Rattle.script.specs.Output.{sent, jobDone, printed, bench}
-use Rattle.script.specs.Stream.{Stepped, heldOf, kept, lineDone, byteRead, endRead, streamed}
+use Rattle.jobs.specs.Holding.{heldOf, kept}
+use Rattle.script.specs.Stream.{Stepped, lineDone, byteRead, endRead, streamed}
 
 -- A command line of over 80 bytes has no form, so one such line is answered as any other.
 long-command : (t a b reply : List ℕ) → 80 < length a → 80 < length b → commandCall t a reply ≡ commandCall t b reply

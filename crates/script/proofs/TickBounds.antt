@@ -18,8 +18,8 @@ use Rattle.drive.proofs.KeptSound.{pulses-bound}
 use Rattle.table.specs.Layout.{tableSize, records, withMotors}
 use Rattle.table.specs.Sound.{soundHead, soundTable}
 use Rattle.urqolina.specs.Calls.{TickAfter, refusal, accepted, counts, tickCall}
-use Rattle.script.specs.Bounds.{Near, CountsWithin, mostCount}
-use Rattle.script.proofs.NetLaws.{count-near, words-within, zeros-within}
+use Rattle.jobs.specs.Bounds.{Near, CountsWithin, mostCount}
+use Rattle.jobs.proofs.NetLaws.{count-near, words-within, zeros-within}
 
 -- a sound record's motor gives no more than 5,000 pulses
 record-near : (r : List ℕ) → soundRecord r ≡ true → Near mostCount (placeOf (tickCount (motorOf r))) × (tickCount (motorOf r) < 4294967296)

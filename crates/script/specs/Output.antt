@@ -1,21 +1,18 @@
 -- Document 01, "Bench cases": what *bench* prints. "It prints, per line, the number, then for C a space and the reply or `-`;
 -- for T, per channel with a nonzero net, a space, x, colon, signed net. Any other line prints `?`."
 use Prim.Native.Char.{code}
-use Prim.Native.Nat.{ℕ, zero, suc, _+_, _-_, _/_, _%_}
+use Prim.Native.Nat.{ℕ, zero, suc, _+_, _-_}
 use mathlib.Core.Path.{_≡_}
 use mathlib.Core.List.{List, [], _∷_, _++_}
-use mathlib.Core.Bool.{cond}
-use lib.ListN.{take, drop, getD, replicate}
-use lib.Dec.{eqb}
-use Rattle.digits.specs.Bytes.{gather}
-use Rattle.digits.specs.Words.{word}
-use Rattle.digits.specs.Places.{origin, placeOf}
-use Rattle.text.specs.Text.{Wrote, bytes, decimal, signedDecimal, hexDigit}
+use lib.ListN.{drop, replicate}
+use Rattle.digits.specs.Places.{origin}
+use Rattle.text.specs.Text.{Wrote, bytes}
 use Rattle.table.specs.Layout.{tableSize}
 use Rattle.urqolina.specs.Calls.{freshCall, commandCall, readingCall, tickCall}
-use Rattle.script.specs.declared.Job.{Job}
-use Rattle.script.specs.declared.Job.the-variants.{Send, Touch, Wait, Unknown}
-use Rattle.script.specs.Jobs.{linesOf, jobOf}
+use Rattle.jobs.specs.declared.Job.{Job}
+use Rattle.jobs.specs.declared.Job.the-variants.{Send, Touch, Wait, Unknown}
+use Rattle.jobs.specs.Jobs.{linesOf, jobOf}
+use Rattle.jobs.specs.Texts.{plainText, commandText, netsAfter, waitedText}
 
 -- what a line leaves and prints
 pub record Printed : Type 0 where
@@ -26,23 +23,6 @@ pub record Printed : Type 0 where
 pub record Leaves (p : Printed) (after out₀ out : List ℕ) (r : ℕ) : Type 0 where
   pub table : after ≡ p .table
   pub text : Wrote out₀ out (p .text) r
-
--- "Numbers that a program prints itself (not replies) are decimal without leading zeros"
-abbrev pub plainText : ℕ → List ℕ
-plainText n = decimal 1 n
-
--- "signed ones carry a sign, + for 0"
-abbrev pub signedText : ℕ → List ℕ
-signedText p = signedDecimal 1 p
-
--- "the reply or `-`"
-abbrev pub replyText : List ℕ → List ℕ
-replyText [] = bytes "-"
-replyText (b ∷ s) = b ∷ s
-
--- "the number, then for C a space and the reply or `-`": the result is the number plus 256 times the reply's length
-unfoldable pub commandText : ℕ → List ℕ → List ℕ
-commandText result reply = plainText (result % 256) ++ (code " " ∷ replyText (take (result / 256) reply))
 
 -- C: the command call, with a reply buffer of 32 bytes
 unfoldable pub sent : List ℕ → List ℕ → Printed
@@ -63,11 +43,6 @@ pub record Waited : Type 0 where
   pub table : List ℕ
   pub nets : List ℕ
 
--- the nets with the counts of one more tick
-unfoldable pub netsAfter : List ℕ → List ℕ → List ℕ
-netsAfter [] pulses = []
-netsAfter (n ∷ ns) pulses = (n + placeOf (word (take 4 pulses)) - origin) ∷ netsAfter ns (drop 4 pulses)
-
 -- one more tick
 abbrev pub tickOf : Waited → Waited
 tickOf w =
@@ -78,18 +53,6 @@ tickOf w =
 unfoldable pub waited : ℕ → Waited → Waited
 waited zero w = w
 waited (suc n) w = waited n (tickOf w)
-
--- "per channel with a nonzero net, a space, x, colon, signed net"
-unfoldable pub netText : ℕ → ℕ → List ℕ
-netText c net = cond (eqb net origin) [] (code " " ∷ hexDigit c ∷ code ":" ∷ signedText net)
-
--- the nets of the first k channels, in the channels' order
-abbrev pub netTexts : List ℕ → ℕ → List ℕ
-netTexts nets k = gather (λ c. netText c (getD nets c origin)) k
-
--- the number, and the nets of all the channels
-unfoldable pub waitedText : ℕ → List ℕ → List ℕ
-waitedText result nets = plainText result ++ netTexts nets 16
 
 -- T: n ticks
 unfoldable pub ticked : List ℕ → ℕ → Printed

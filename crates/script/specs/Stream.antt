@@ -6,23 +6,12 @@ use Prim.Native.Nat.{ℕ}
 use mathlib.Core.Path.{_≡_}
 use mathlib.Core.List.{List, [], _∷_, _++_}
 use mathlib.Core.Bool.{cond}
-use lib.ListN.{length, take}
-use lib.Dec.{eqb, ltb}
+use lib.ListN.{length}
+use lib.Dec.{eqb}
 use Rattle.text.specs.Text.{Wrote}
-use Rattle.script.specs.Jobs.{jobOf}
+use Rattle.jobs.specs.Jobs.{jobOf}
+use Rattle.jobs.specs.Holding.{kept}
 use Rattle.script.specs.Output.{Printed, jobDone}
-
--- how many bytes of a line are held: enough for `C ` and a command line of over 80 bytes
-abbrev pub heldSize : ℕ
-heldSize = 96
-
--- what is held of a line
-abbrev pub heldOf : List ℕ → List ℕ
-heldOf line = take heldSize line
-
--- what is held with one more byte of the line: a byte past those that are held is left out
-unfoldable pub kept : List ℕ → ℕ → List ℕ
-kept held b = cond (ltb (length held) heldSize) (held ++ (b ∷ [])) held
 
 -- a line by itself: its table, and its text with the line feed
 unfoldable pub lineDone : List ℕ → List ℕ → Printed

@@ -1,12 +1,12 @@
 // A line of a script, run on a table: what it does to the table, and its text at the front of the buffer that the caller lends.
 
-use crate::Job;
-use crate::jobs::job_of;
-use crate::nets::add_counts;
-use crate::texts::write_command;
-use crate::texts::write_number;
-use crate::texts::write_waited;
 use digits::places::ORIGIN;
+use jobs::Job;
+use jobs::nets::add_counts;
+use jobs::reading::job_of;
+use jobs::texts::write_command;
+use jobs::texts::write_number;
+use jobs::texts::write_waited;
 use urqolina::urqolina_command;
 use urqolina::urqolina_reading;
 use urqolina::urqolina_tick;
@@ -14,8 +14,8 @@ ghost use mathlib.Core.Path.{_≡_};
 ghost use Prim.Native.Nat.{_≤_};
 ghost use lib.ListN.{length, replicate};
 ghost use Rattle.digits.specs.Places.{origin};
-ghost use Rattle.script.specs.Bounds.{NetsWithin, mostNet, mostTicks, outSize};
-ghost use Rattle.script.specs.Jobs.{jobOf};
+ghost use Rattle.jobs.specs.Bounds.{NetsWithin, mostNet, mostTicks, outSize};
+ghost use Rattle.jobs.specs.Jobs.{jobOf};
 ghost use Rattle.script.specs.Output.{Leaves, sent, touched, tickOf, waited, ticked, jobDone};
 ghost use Rattle.script.specs.Stream.{lineDone};
 

@@ -1,13 +1,14 @@
 // bench as it reads: a byte of the input at a time, and the end.
 
-use crate::holding::keep;
 use crate::running::run_line;
+use jobs::holding::keep;
 ghost use mathlib.Core.Path.{_≡_};
 ghost use Prim.Native.Nat.{_<_, _≤_};
 ghost use lib.ListN.{length, take, drop};
 ghost use Rattle.text.specs.Text.{Wrote};
-ghost use Rattle.script.specs.Bounds.{outSize};
-ghost use Rattle.script.specs.Stream.{Takes, Prints, heldSize, byteRead, endRead};
+ghost use Rattle.jobs.specs.Bounds.{outSize};
+ghost use Rattle.jobs.specs.Holding.{heldSize};
+ghost use Rattle.script.specs.Stream.{Takes, Prints, byteRead, endRead};
 
 // What a byte leaves: how many bytes of the line are held, and how many are written.
 pub struct Taken {

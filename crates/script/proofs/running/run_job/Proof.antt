@@ -6,7 +6,7 @@ use denote.Ref.{now}
 use borrow.Author.Needs.{needs}
 use Rattle.text.specs.Text.{bytes}
 use Rattle.script.proofs.RunLaws.{send-two, waits-few}
-use Rattle.script.proofs.OutLaws.{set-put, whole-rest}
+use Rattle.jobs.proofs.OutLaws.{set-put, whole-rest}
 use Rattle.script.proofs.running.run_job.Statement.{statement}
 use Rattle.script.proofs.running.run_job.Tie as tie
 

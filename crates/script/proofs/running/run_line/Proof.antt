@@ -7,9 +7,9 @@ use denote.Ref.{now}
 use borrow.Author.Needs.{needs}
 use Rattle.script.specs.Stream.{lineDone}
 use Rattle.script.specs.Output.{jobDone}
-use Rattle.script.specs.Jobs.{jobOf}
+use Rattle.jobs.specs.Jobs.{jobOf}
 use Rattle.script.proofs.RunLaws.{job-within}
-use Rattle.script.proofs.OutLaws.{text-byte}
+use Rattle.jobs.proofs.OutLaws.{text-byte}
 use Rattle.script.proofs.running.run_line.Statement.{statement}
 use Rattle.script.proofs.running.run_line.Tie as tie
 

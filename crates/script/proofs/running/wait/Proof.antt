@@ -4,10 +4,12 @@ use mathlib.Core.Path.{_≡_, refl, sym, ap, _∙_}
 use native.Mathlib.Omega.{arith}
 use lib.ListN.{length, replicate}
 use Rattle.urqolina.specs.Calls.{tickCall}
-use Rattle.script.specs.Output.{netsAfter, waited}
-use Rattle.script.specs.Bounds.{NetsWithin, mostCount, mostNet}
+use Rattle.jobs.specs.Texts.{netsAfter}
+use Rattle.script.specs.Output.{waited}
+use Rattle.jobs.specs.Bounds.{NetsWithin, mostCount, mostNet}
 use Rattle.script.proofs.TickBounds.{tick-within}
-use Rattle.script.proofs.NetLaws.{none-within, within-more, nets-within, waited-more}
+use Rattle.jobs.proofs.NetLaws.{none-within, within-more, nets-within}
+use Rattle.script.proofs.RunLaws.{waited-more}
 use Rattle.script.proofs.running.wait.Statement.{statement}
 use Rattle.script.proofs.running.wait.Tie as tie
 

@@ -1,0 +1,5 @@
+pub mod Jobs
+pub mod Texts
+pub mod Bounds
+pub mod Holding
+pub mod Computing
