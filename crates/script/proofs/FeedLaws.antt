@@ -11,7 +11,6 @@ use lib.ListN.{length, take, drop, getD, length-append}
 use lib.Seq.{drop-cons, take-at, length-take-le}
 use Rattle.digits.specs.Bytes.{put}
 use Rattle.jobs.specs.Jobs.{jobOf}
-use Rattle.jobs.specs.Holding.{kept}
 use Rattle.script.specs.Stream.{Stepped, Prints, lineDone, byteRead, streamed}
 use Rattle.script.proofs.RunLaws.{job-within}
 
@@ -32,19 +31,13 @@ pub line-within : (t line : List ℕ) → length (lineDone t line .text) ≤ 235
 unfolding lineDone
 line-within t line = rw length-append (omega (arith, job-within t line (jobOf line)))
 
+either-within : (u : Bool) (a b : Stepped) → length (a .text) ≤ 235 → length (b .text) ≤ 235 → length (cond u a b .text) ≤ 235
+either-within true a b h l = h
+either-within false a b h l = l
+
 pub byte-within : (t held : List ℕ) (b : ℕ) → length (byteRead t held b .text) ≤ 235
 unfolding byteRead
-byte-within t held b = go (eqb b (code "\n"))
-  where
-    ended : Stepped
-    ended = record { table = lineDone t held .table; held = []; text = lineDone t held .text }
-
-    more : Stepped
-    more = record { table = t; held = kept held b; text = [] }
-
-    go : (u : Bool) → length (cond u ended more .text) ≤ 235
-    go true = line-within t held
-    go false = omega arith
+byte-within t held b = either-within (eqb b (code "\n")) _ _ (line-within t held) (omega arith)
 
 -- what is written by now, with the text that is put after it
 pub front-more : (t b : List ℕ) (n : ℕ) → n + length b ≤ length t → take (n + length b) (put t n b) ≡ take n t ++ b

@@ -1,6 +1,8 @@
 -- `script::running::touch` meets its contract. Assumes nothing.
-use mathlib.Core.Path.{refl}
+use mathlib.Core.Path.{_≡_, refl, sym}
+use denote.Ref.{now}
 use borrow.Author.Needs.{needs}
+use Rattle.urqolina.specs.Calls.{readingCall}
 use Rattle.script.specs.Output.{touched}
 use Rattle.script.proofs.running.touch.Statement.{statement}
 use Rattle.script.proofs.running.touch.Tie as tie
@@ -19,7 +21,11 @@ same-length-2 c = search needs
 
 returns : tie.Need-returns
 unfolding touched
-returns c = rw (← c .before .before .before .before .before .before .urqolina-reading .ensures) (record { table = refl; text = c .before .before .write-number .ensures })
+returns c =
+    let r = c .before .before .before .before .before .before .urqolina-reading in
+    let a = c .before .before .before .before .before .before .before .before .before .before .args in
+    let done : readingCall (now (a .table)) (a .channel) (a .contacts) ≡ record { result = r .result; table = r .last .0 } = sym (r .ensures) in
+    rw done (record { table = refl; text = c .before .before .write-number .ensures })
 
 pub touch-spec : {M : Type 1} → statement M
 touch-spec =
