@@ -1,3 +1,4 @@
-pub mod Steps
-pub mod Marked
-pub mod Cases
+pub mod PartLaws
+pub mod DeedLaws
+pub mod Following
+pub mod AccountLaws

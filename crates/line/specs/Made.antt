@@ -31,13 +31,14 @@ startMade (Rel w) = true
 startMade (Scan going) = direction going
 startMade (Jog going) = direction going
 
+-- the 0 of DYYY0yyy is itself
 abbrev pub settingMade : Setting → Bool
 settingMade (Preset w) = true
 settingMade (SetCwLimit w) = true
 settingMade (SetCcwLimit w) = true
 settingMade (Select k) = leb k 2
 settingMade (SetSpeed k v) = leb k 2
-settingMade (SetSwitches q r) = true
+settingMade (SetSwitches q r) = eqb (r .a) 0
 settingMade (SetMotor q) = true
 
 -- an order as a line makes it

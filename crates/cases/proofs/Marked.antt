@@ -4,7 +4,7 @@ use mathlib.Core.Path.{_≡_, refl}
 use mathlib.Core.List.{List, [], _∷_, map}
 use Rattle.urqolina.specs.Computing.{computing-urqolina}
 use Rattle.digits.specs.Places.{cw}
-use Rattle.laws.proofs.Steps.{Step, says, ticks, holds, fresh, after, seen, stated}
+use Rattle.cases.proofs.Steps.{Step, says, ticks, holds, fresh, after, seen, stated}
 
 pub cases : List (List Step)
 cases =

@@ -8,7 +8,7 @@ use Rattle.digits.specs.Places.{ccw}
 use Rattle.text.specs.Text.{bytes}
 use Rattle.urqolina.specs.Calls.{freshCall, commandCall, readingCall, tickCall}
 use Rattle.urqolina.specs.Computing.{computing-urqolina}
-use Rattle.laws.proofs.Steps.{Step, says, reads, ticks, holds, lent, fresh, after, seen, stated}
+use Rattle.cases.proofs.Steps.{Step, says, reads, ticks, holds, lent, fresh, after, seen, stated}
 
 -- Local mode refuses starts, settings, SPC and all-reply before their values are looked at, and a line with no form before
 -- that; reads, stops, LOC, REM and the ERR family are taken. Each number leaves its flag, and ERR? tells the lowest.

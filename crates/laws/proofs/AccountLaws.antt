@@ -1,0 +1,198 @@
+-- The account of a channel's drives, deed by deed: what is booked from outside is what the motor holds. Assumes nothing.
+use mathlib.Core.Path.{_≡_, refl, sym, ap, subst, _∙_}
+use mathlib.Core.Bool.{Bool, true, false, _&&_, not, cond, false≢true, and-false, and-self}
+use Prim.Native.Nat.{ℕ, _+_, _*_, _-_, _≤_, _<_}
+use native.Mathlib.Omega.{arith}
+use lib.Dec.{eqb}
+use borrow.Author.Tests.{eqb-true, eqb-false, eq-eqb, ne-eqb, not-true, not-false}
+use Rattle.digits.specs.Places.{origin, isPosition, moved}
+use Rattle.record.specs.declared.Motor.{Motor}
+use Rattle.record.specs.Record.{standing}
+use Rattle.motor.specs.Switches.{blocked}
+use Rattle.motor.specs.Sound.{driving, soundMotor}
+use Rattle.motor.proofs.SoundLaws.{sound-bounds}
+use Rattle.motor.proofs.RoomLaws.{moved-none}
+use Rattle.drive.specs.declared.Course.{Course}
+use Rattle.drive.specs.declared.Course.the-variants.{Stay, Beyond, To, Along}
+use Rattle.drive.specs.declared.Verdict.the-variants.{Done, OutOfRange}
+use Rattle.drive.specs.Numbers.{numberOf}
+use Rattle.drive.specs.declared.Ticked.{Ticked}
+use Rattle.drive.specs.Drives.{lsend, selectedSpeed, courseTo, towards, judgeStart, wellAimed, launched, started, endedWith, stopped, speedChanged, contacted, switchRead}
+use Rattle.drive.specs.Ticks.{tickSpeed, tickMotor}
+use Rattle.drive.proofs.Laws.{stopped-given-none, stopped-stands, stopped-again}
+use Rattle.drive.proofs.TickLaws.{carried, never-early, drive-stays, drive-ends}
+use Rattle.drive.proofs.KeptSound.{towards-ahead}
+use Rattle.line.specs.declared.Start.{Start}
+use Rattle.line.specs.declared.Start.the-variants.{Abs, Rel, Scan, Jog}
+use Rattle.line.specs.declared.Setting.{Setting}
+use Rattle.line.specs.declared.Setting.the-variants.{Preset, SetCwLimit, SetCcwLimit, Select, SetSpeed, SetSwitches, SetMotor}
+use Rattle.orders.specs.Settings.{directionOf, courseOf, withSetting}
+use Rattle.laws.specs.Deeds.{Deed, starts, stops, speeds, sets, reads, ticks, rests}
+use Rattle.laws.specs.Ledger.{Account, setsOff, booked, closed}
+use Rattle.laws.proofs.DeedLaws.{performed, Fits, fits-start, fits-stop, fits-speed, fits-set, fits-read, fits-tick, fits-rest}
+
+-- a motor that has just been started: it drives, at the selected speed, with fraction 0
+pub data Leaves (m : Motor) : Motor → Type 0 where
+  leaves : (going kind target : ℕ) → 1 ≤ going → Leaves m (launched m going kind target)
+
+-- A start to another place that is accepted leaves; one to the place where the motor stands changes nothing.
+module _ (m : Motor) (going p n : ℕ) where
+  to-leaves : eqb (moved going p n) (m .place) ≡ false → judgeStart m (courseTo m going p n) ≡ Done → Leaves m (started m (courseTo m going p n))
+  unfolding courseTo judgeStart started
+  to-leaves e = rw e (go (isPosition (moved going p n)))
+    where
+      q : ℕ
+      q = moved going p n
+
+      go : (b : Bool) → judgeStart m (cond b (To q) Beyond) ≡ Done → Leaves m (started m (cond b (To q) Beyond))
+      go true h = leaves (towards m q) 1 q (towards-ahead m q e .0)
+      go false h =
+          let never : false ≡ true = cc in
+          absurd (false≢true never)
+
+  to-stays : eqb (moved going p n) (m .place) ≡ true → started m (courseTo m going p n) ≡ m
+  unfolding courseTo started
+  to-stays e = rw e
+
+-- A place some pulses away is another place.
+away : (m : Motor) (going n : ℕ) → soundMotor m ≡ true → 1 ≤ n → eqb (moved going (m .place) n) (m .place) ≡ false
+away m going n s h = go (eqb going 1)
+  where
+    go : (b : Bool) → eqb (cond b (m .place + n) (m .place - n)) (m .place) ≡ false
+    go true = ne-eqb (m .place + n) (m .place) (omega arith)
+    go false = ne-eqb (m .place - n) (m .place) (omega (arith, sound-bounds m s .place))
+
+two-ways : (m : Motor) (going : ℕ) → wellAimed m (Along going) ≡ true → 1 ≤ going
+two-ways m going h = go (eqb going 0) refl
+  where
+    go : (b : Bool) → eqb going 0 ≡ b → 1 ≤ going
+    go true e = absurd (false≢true (rw (eqb-true going 0 e) at h))
+    go false e = omega (arith, eqb-false going 0 e)
+
+-- An accepted start that sets off leaves.
+pub off-leaves : (m : Motor) (s : Start) → soundMotor m ≡ true → judgeStart m (courseOf m s) ≡ Done → wellAimed m (courseOf m s) ≡ true
+    → setsOff m s ≡ true → Leaves m (started m (courseOf m s))
+unfolding setsOff
+off-leaves m (Abs w) s h a e = to-leaves m (directionOf w) origin (w .digits) (not-true _ e) h
+off-leaves m (Rel w) s h a e =
+    to-leaves m (directionOf w) (m .place) (w .digits) (away m (directionOf w) (w .digits) s (omega (arith, eqb-false (w .digits) 0 (not-true _ e)))) h
+off-leaves m (Scan going) s h a e = unfold started in leaves going 0 origin (two-ways m going a)
+off-leaves m (Jog going) s h a e = to-leaves m going (m .place) 1 (away m going 1 s (omega arith)) h
+
+-- One that does not changes nothing.
+pub off-stays : (m : Motor) (s : Start) → setsOff m s ≡ false → started m (courseOf m s) ≡ m
+unfolding setsOff
+off-stays m (Abs w) e = to-stays m (directionOf w) origin (w .digits) (not-false _ e)
+off-stays m (Rel w) e =
+    to-stays m (directionOf w) (m .place) (w .digits)
+    (rw (eqb-true (w .digits) 0 (not-false _ e), moved-none (directionOf w) (m .place)) (eq-eqb (m .place) (m .place) refl))
+off-stays m (Scan going) e = absurd (false≢true (sym e))
+off-stays m (Jog going) e = absurd (false≢true (sym e))
+
+-- what the account and the motor have to say of each other
+pub record Balanced (m : Motor) (a : Account) : Type 0 where
+  pub lasting : a .lasts ≡ driving m
+  pub speed : driving m ≡ true → a .speed ≡ m .drive .speed
+  pub exact : driving m ≡ true → 1000 * a .pulses + m .drive .fraction ≡ a .sum
+  pub most : 1000 * a .pulses ≤ a .sum
+
+-- A deed that leaves the drive and the account leaves them balanced, and so does one that ends the drive.
+same-drive : (m n : Motor) (a : Account) → n .drive ≡ m .drive → Balanced m a → Balanced n (closed n a)
+same-drive m n a e b =
+    rw e
+    (record { lasting = rw (b .lasting) (and-self (driving m)); speed = b .speed; exact = b .exact; most = b .most })
+
+no-drive : (n : Motor) (a : Account) → n .drive ≡ standing → 1000 * a .pulses ≤ a .sum → Balanced n (closed n a)
+no-drive n a e h =
+    rw e
+    (record { lasting = and-false (a .lasts); speed = λ d. absurd (false≢true d); exact = λ d. absurd (false≢true d); most = h })
+
+-- No setting touches the drive.
+pub set-drive : (m : Motor) (s : Setting) → withSetting m s .drive ≡ m .drive
+unfolding withSetting
+set-drive m (Preset w) = refl
+set-drive m (SetCwLimit w) = refl
+set-drive m (SetCcwLimit w) = refl
+set-drive m (Select k) = refl
+set-drive m (SetSpeed k v) = refl
+set-drive m (SetSwitches q r) = refl
+set-drive m (SetMotor q) = refl
+
+start-balanced : (m : Motor) (s : Start) (n : ℕ) (a : Account) → soundMotor m ≡ true → judgeStart m (courseOf m s) ≡ Done
+    → wellAimed m (courseOf m s) ≡ true → Balanced m a → Balanced (started m (courseOf m s)) (closed (started m (courseOf m s)) (booked m n a (starts s)))
+unfolding booked
+start-balanced m s n a o h w b = go (setsOff m s) refl
+  where
+    new : Account
+    new = record { lasts = true; speed = selectedSpeed m; sum = 0; pulses = 0 }
+
+    launch : {l : Motor} → Leaves m l → Balanced l (closed l new)
+    launch (leaves going kind target g) =
+        record { lasting = refl; speed = λ d. refl; exact = λ d. refl; most = omega arith }
+
+    go : (t : Bool) → setsOff m s ≡ t → Balanced (started m (courseOf m s)) (closed (started m (courseOf m s)) (cond t new a))
+    go true e = launch (off-leaves m s o h w e)
+    go false e = rw (off-stays m s e) (same-drive m m a refl b)
+
+stop-balanced : (m : Motor) (flags : ℕ) (a : Account) → Balanced m a → Balanced (stopped flags m) (closed (stopped flags m) a)
+stop-balanced m flags a b = go (driving m) refl
+  where
+    go : (t : Bool) → driving m ≡ t → Balanced (stopped flags m) (closed (stopped flags m) a)
+    go true d = no-drive (stopped flags m) a (stopped-stands flags m d) (b .most)
+    go false d = rw (stopped-again flags m d) (same-drive m m a refl b)
+
+speed-balanced : (m : Motor) (v : ℕ) (a : Account) → driving m ≡ true → Balanced m a
+    → Balanced (speedChanged m v) (closed (speedChanged m v) (record { lasts = a .lasts; speed = v; sum = a .sum; pulses = a .pulses }))
+unfolding speedChanged
+speed-balanced m v a d b = record { lasting = rw (b .lasting) (and-self (driving m)); speed = λ e. refl; exact = b .exact; most = b .most }
+
+read-balanced : (m : Motor) (n : ℕ) (a : Account) → Balanced m a → Balanced (switchRead m n) (closed (switchRead m n) a)
+unfolding switchRead
+read-balanced m n a b = go (driving m && blocked (m .drive .going) (contacted m n))
+  where
+    after : Bool → Motor
+    after t = cond t (endedWith lsend (contacted m n)) (contacted m n)
+
+    go : (t : Bool) → Balanced (after t) (closed (after t) a)
+    go true = no-drive (endedWith lsend (contacted m n)) a refl (b .most)
+    go false = same-drive m (contacted m n) a refl b
+
+-- A tick books its speed and its pulses while the drive lasts.
+speed-in-force : (m : Motor) → driving m ≡ true → tickSpeed m ≡ m .drive .speed
+unfolding tickSpeed
+speed-in-force m d = rw d
+
+tick-balanced : (m : Motor) (n : ℕ) (a : Account) → n ≡ tickMotor m .pulses → Balanced m a
+    → Balanced (tickMotor m .motor) (closed (tickMotor m .motor) (booked m n a ticks))
+unfolding booked
+tick-balanced m n a p b =
+    subst (λ (t : Bool). Balanced (tickMotor m .motor) (closed (tickMotor m .motor) (cond t (record { lasts = true; speed = a .speed; sum = a .sum + a .speed; pulses = a .pulses + n }) a))) (sym (b .lasting)) (go (driving m) refl)
+  where
+    m' : Motor
+    m' = tickMotor m .motor
+
+    more : Account
+    more = record { lasts = true; speed = a .speed; sum = a .sum + a .speed; pulses = a .pulses + n }
+
+    go : (t : Bool) → driving m ≡ t → Balanced m' (closed m' (cond t more a))
+    go false d = same-drive m m' a (ap (λ (x : Ticked). x .motor .drive) (stopped-given-none m d)) b
+    go true d =
+        let v : tickSpeed m ≡ a .speed = speed-in-force m d ∙ sym (b .speed d) in
+        (record {
+          lasting = refl;
+          speed = λ e. b .speed d ∙ sym (drive-stays m e .speed);
+          exact = λ e. omega (arith, p, v, carried m e, b .exact d);
+          most = omega (arith, p, v, never-early m, b .exact d);
+        })
+
+-- Whatever a deed does, the account stays balanced.
+pub performed-balanced : (m : Motor) (d : Deed) (n : ℕ) (a : Account) → soundMotor m ≡ true → Fits m d → (d ≡ ticks → n ≡ tickMotor m .pulses) → Balanced m a
+    → Balanced (performed m d) (closed (performed m d) (booked m n a d))
+unfolding performed booked
+performed-balanced m (starts s) n a o (fits-start _ still h w r) p b = start-balanced m s n a o h w b
+performed-balanced m (stops flags) n a o f p b = stop-balanced m flags a b
+performed-balanced m (speeds v) n a o (fits-speed _ d h) p b = speed-balanced m v a d b
+performed-balanced m (sets s) n a o f p b = same-drive m (withSetting m s) a (set-drive m s) b
+performed-balanced m (reads c) n a o f p b = read-balanced m c a b
+performed-balanced m ticks n a o f p b = tick-balanced m n a (p refl) b
+performed-balanced m rests n a o f p b = same-drive m m a refl b

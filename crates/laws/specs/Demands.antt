@@ -1,0 +1,169 @@
+-- The demands, as statements of a library of the four calls.
+use mathlib.Core.Path.{_≡_}
+use mathlib.Core.List.{List, []}
+use mathlib.Core.Bool.{Bool, true, false, cond}
+use Prim.Native.Nat.{ℕ, _+_, _*_, _-_, _%_, _≤_, _<_}
+use lib.ListN.{length, getD}
+use lib.Dec.{eqb}
+use Rattle.digits.specs.Bytes.{AllBytes, put}
+use Rattle.digits.specs.Words.{withBit}
+use Rattle.digits.specs.Places.{ahead}
+use Rattle.text.specs.Text.{bytes}
+use Rattle.record.specs.declared.Motor.{Motor}
+use Rattle.motor.specs.Switches.{room, blocked}
+use Rattle.motor.specs.Sound.{driving}
+use Rattle.drive.specs.declared.Course.{Course}
+use Rattle.drive.specs.declared.Course.the-variants.{To}
+use Rattle.drive.specs.Drives.{selectedSpeed, towards}
+use Rattle.drive.specs.Ticks.{roundedUp, toTarget}
+use Rattle.line.specs.declared.Start.{Start}
+use Rattle.line.specs.declared.Setting.{Setting}
+use Rattle.line.specs.declared.Question.the-variants.{AskStatus}
+use Rattle.line.specs.declared.HeadQuestion.the-variants.{AskAllReply}
+use Rattle.line.specs.declared.Order.{Order}
+use Rattle.line.specs.declared.Order.the-variants.{Go, StopAll, Set, Ask, Mode, AllReply, AskHead}
+use Rattle.line.specs.declared.Parsed.{Parsed}
+use Rattle.line.specs.declared.Parsed.the-variants.{Is, Nothing}
+use Rattle.line.specs.Forms.{orderOf}
+use Rattle.orders.specs.Settings.{courseOf}
+use Rattle.replies.specs.Replies.{modeLetter, headText}
+use Rattle.table.specs.Layout.{tableSize, errors, withErrors, recordAt, motorAt}
+use Rattle.table.specs.Sound.{soundTable}
+use Rattle.laws.specs.Sequences.{Library, Call, command, reading, tick, After, after, run, ran, never}
+use Rattle.laws.specs.Deeds.{Deed, starts, stops, speeds, sets, reads, ticks, rests, orderTaken, names, deedOf, deed, ticksIn}
+use Rattle.laws.specs.Ledger.{countAt, Account, noDrive, setsOff, account, Travel, noTravel, travel}
+use Rattle.laws.specs.ReadBack.{questionFor, textFor, changes, changesMode, changesReply}
+
+-- "the table is sound" after any sequence, "so 6 never comes"
+pub record Lasting (l : Library) : Type 0 where
+  pub sound : (b : List ℕ) → length b ≡ tableSize → (ks : List Call) → soundTable (ran l b ks) ≡ true
+  pub neverSix : (b : List ℕ) → length b ≡ tableSize → (ks : List Call) (k : Call) → after l (ran l b ks) k .result % 256 ≡ 6 → ⊥
+
+-- Demand 3, of channel c after a fresh call on the bytes b and the calls ks. Every beginning of a sequence is a sequence, so what
+-- is stated here holds of every drive at every moment of it.
+module _ (l : Library) (b : List ℕ) (c : ℕ) (ks : List Call) where
+  -- the table, the account of the last drive, and the way since the last preset
+  abbrev pub tableNow : List ℕ
+  tableNow = ran l b ks
+
+  abbrev pub motorNow : Motor
+  motorNow = motorAt (ran l b ks) c
+
+  abbrev pub accountNow : Account
+  accountNow = account l c (l .fresh b .table) noDrive ks
+
+  abbrev pub travelNow : Travel
+  travelNow = travel l c (l .fresh b .table) noTravel ks
+
+  -- why a drive ends with a call k: a stop; a switch reading after which "the switch of its direction is now active and enabled";
+  -- or a tick that reaches the target or uses the room up
+  pub data Ends (k : Call) : Type 0 where
+    byStop : (flags : ℕ) → deed c tableNow k ≡ stops flags → Ends k
+    bySwitch : (n : ℕ) → deed c tableNow k ≡ reads n → blocked (motorNow .drive .going) (motorAt (after l tableNow k .table) c) ≡ true → Ends k
+    byTarget :
+        deed c tableNow k ≡ ticks → toTarget motorNow ≡ true → motorAt (after l tableNow k .table) c .place ≡ motorNow .drive .target → Ends k
+    byRoom : deed c tableNow k ≡ ticks → room (motorNow .drive .going) (motorAt (after l tableNow k .table) c) ≡ 0 → Ends k
+
+  pub record Demand3 : Type 0 where
+    -- "A thousand times the pulses given never exceeds that sum"
+    pub neverMore : 1000 * accountNow .pulses ≤ accountNow .sum
+    -- "and while the drive lasts the sum is less than a thousand above it"
+    pub neverLess : accountNow .lasts ≡ true → accountNow .sum < 1000 * accountNow .pulses + 1000
+    -- "each drive that demand 2 starts": an accepted start drives, and nothing drives but such a drive
+    pub starting : (k : Call) (s : Start) → deed c tableNow k ≡ starts s → setsOff motorNow s ≡ true → driving (motorAt (after l tableNow k .table) c) ≡ true
+    pub lasting : accountNow .lasts ≡ driving motorNow
+    -- and it lasts until something ends it
+    pub ending : (k : Call) → driving motorNow ≡ true → driving (motorAt (after l tableNow k .table) c) ≡ false → Ends k
+    -- "A motor that stands stopped when the tick comes gets none."
+    pub none : driving motorNow ≡ false → (p : List ℕ) → length p ≡ 64 → countAt (l .tick tableNow p .pulses) c ≡ 0
+    -- "Each channel's position is its last accepted preset, or zero, plus the CW pulses given since, less the CCW pulses."
+    pub position : motorNow .place + travelNow .ccw ≡ travelNow .preset + travelNow .cw
+
+-- "A drive to a target at distance D and speed v, with no stop, SPC or switch reading on its channel and D within room, ends at
+-- tick D·1000/v rounded up." A deed that disturbs it so:
+unfoldable pub disturbs : Deed → Bool
+disturbs (starts s) = false
+disturbs (stops flags) = true
+disturbs (speeds v) = true
+disturbs (sets s) = false
+disturbs (reads n) = true
+disturbs ticks = false
+disturbs rests = false
+
+-- The drive begins with an accepted start k of channel c to the place p, and the calls `later` come after it.
+module _ (l : Library) (b : List ℕ) (c : ℕ) (ks : List Call) (k : Call) (p : ℕ) (later : List Call) where
+  -- D, and D·1000/v rounded up
+  abbrev pub distance : ℕ
+  distance = ahead (towards (motorNow l b c ks) p) (motorNow l b c ks .place) p
+
+  abbrev pub lastTick : ℕ
+  lastTick = roundedUp (distance * 1000) (selectedSpeed (motorNow l b c ks))
+
+  -- the table after `later`
+  abbrev pub tableLater : List ℕ
+  tableLater = run l (after l (ran l b ks) k .table) later
+
+  pub record LastTick : Type 0 where
+    -- it drives as long as fewer ticks have come
+    pub before : ticksIn later < lastTick → driving (motorAt tableLater c) ≡ true
+    -- and with that tick it stands stopped at its target, with end flags 0
+    pub with :
+        ticksIn later + 1 ≡ lastTick → (pulses : List ℕ) → length pulses ≡ 64
+        → (driving (motorAt (l .tick tableLater pulses .table) c) ≡ false) × (motorAt (l .tick tableLater pulses .table) c .place ≡ p)
+        × (motorAt (l .tick tableLater pulses .table) c .ended ≡ 0)
+
+-- Demand 2, the settings: what was accepted is what the read command answers, in the exact bytes of the reply, after any calls
+-- that do not change it. k is the accepted setting, `later` the calls after it, `line` the read command.
+module _ (l : Library) (b : List ℕ) (ks : List Call) (k : Call) (later : List Call) (line reply : List ℕ) where
+  abbrev pub tableSet : List ℕ
+  tableSet = after l (ran l b ks) k .table
+
+  abbrev pub answered : List ℕ → After
+  answered text = record { result = 256 * length text; table = run l tableSet later; buffer = put reply 0 text }
+
+  pub record ReadsBack : Type 0 where
+    -- PS, FL, BL, SPDH, SPDM and SPDL with and without a number, SETLS and SETMT
+    pub setting : (x : ℕ) (s : Setting) → orderTaken (ran l b ks) k ≡ Is (Set x s) → never l (changes l x s) tableSet later ≡ true
+        → orderOf line ≡ Is (Ask x (questionFor s)) → after l (run l tableSet later) (command line reply) ≡ answered (textFor s)
+    -- ALL_REP EN and DS
+    pub allReply : (n : ℕ) → orderTaken (ran l b ks) k ≡ Is (AllReply n) → never l changesReply tableSet later ≡ true
+        → orderOf line ≡ Is (AskHead AskAllReply) → after l (run l tableSet later) (command line reply) ≡ answered (cond (eqb n 1) (bytes "EN") (bytes "DS"))
+    -- LOC and REM: the first letter of any channel's status
+    pub mode : (n x : ℕ) → orderTaken (ran l b ks) k ≡ Is (Mode n) → never l changesMode tableSet later ≡ true
+        → orderOf line ≡ Is (Ask x AskStatus) → getD (after l (run l tableSet later) (command line reply) .buffer) 0 0 ≡ modeLetter n
+
+-- Demand 2, the records that a call leaves, on any table whatever it holds
+pub record Neighbours (l : Library) : Type 0 where
+  -- "A command naming channel x leaves the other fifteen records byte for byte"
+  pub others : (t line reply : List ℕ) (o : Order) (x d : ℕ) → orderOf line ≡ Is o → names x o ≡ true → (d ≡ x → ⊥)
+      → recordAt (l .command t line reply .table) d ≡ recordAt t d
+  -- "here only ASSTP and AESTP, which name none, reach several": a line that is nothing to a channel leaves its record
+  pub unreached : (t line reply : List ℕ) (o : Order) (d : ℕ) → orderOf line ≡ Is o → deedOf d o ≡ rests
+      → recordAt (l .command t line reply .table) d ≡ recordAt t d
+  -- they leave a record that stands stopped; the table is bytes, as memory is
+  pub stopped : (t line reply : List ℕ) (flags d : ℕ) → AllBytes t → d ≤ 15 → orderOf line ≡ Is (StopAll flags) → driving (motorAt t d) ≡ false
+      → recordAt (l .command t line reply .table) d ≡ recordAt t d
+  -- a switch reading leaves every record but its channel's
+  pub readings : (t : List ℕ) (c n d : ℕ) → (d ≡ c → ⊥) → recordAt (l .reading t c n .table) d ≡ recordAt t d
+
+-- the buffer that a call is lent
+abbrev pub lent : Call → List ℕ
+lent (command line reply) = reply
+lent (reading c n) = []
+lent (tick p) = p
+
+-- Demands 1 and 2, the numbers, on any table whatever it holds. "The command's result is the number plus 256 times the reply
+-- length"; a reading's and a tick's is the number.
+pub record Numbers (l : Library) : Type 0 where
+  -- "No number is given otherwise."
+  pub known : (t : List ℕ) (k : Call) → after l t k .result % 256 ≤ 6
+  -- the rules decide: on a sound table 0 comes where they accept the line, and nowhere else
+  pub accepts : (t line reply : List ℕ) (o : Order) → soundTable t ≡ true → orderTaken t (command line reply) ≡ Is o → l .command t line reply .result % 256 ≡ 0
+  pub refuses : (t line reply : List ℕ) → soundTable t ≡ true → orderTaken t (command line reply) ≡ Nothing → l .command t line reply .result % 256 ≡ 0 → ⊥
+  -- "Numbers 1 to 4 set error flag bits 0 to 3 in turn and change nothing else in the table"
+  pub flags : (t line reply : List ℕ) (n : ℕ) → 1 ≤ n → n ≤ 4 → l .command t line reply .result % 256 ≡ n
+      → l .command t line reply .table ≡ withErrors t (withBit (n - 1) (errors t))
+  -- "5 and 6 change nothing anywhere", and no reply is counted
+  pub nothing : (t : List ℕ) (k : Call) (n : ℕ) → 5 ≤ n → after l t k .result % 256 ≡ n → after l t k ≡ record { result = n; table = t; buffer = lent k }
+  -- "A refused tick (5 or 6) is no tick of any drive: it gives no pulse": a pulse buffer of another size
+  pub ticks : (t p : List ℕ) → (length p ≡ 64 → ⊥) → after l t (tick p) ≡ record { result = 5; table = t; buffer = p }

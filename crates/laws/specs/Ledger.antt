@@ -1,0 +1,118 @@
+-- What demand 3 adds up for a channel, from what is seen outside: which calls are accepted, the pulse buffers, and whether the
+-- channel stands stopped. It knows no fraction.
+use Prim.Native.Nat.{ℕ, _+_, _*_, _-_}
+use mathlib.Core.List.{List, [], _∷_}
+use mathlib.Core.Bool.{Bool, true, false, _&&_, not, cond}
+use lib.Dec.{eqb, ltb}
+use Rattle.digits.specs.Bytes.{part}
+use Rattle.digits.specs.Words.{word}
+use Rattle.digits.specs.Places.{origin}
+use Rattle.record.specs.declared.Motor.{Motor}
+use Rattle.motor.specs.Sound.{driving}
+use Rattle.drive.specs.Drives.{selectedSpeed}
+use Rattle.line.specs.declared.Start.{Start}
+use Rattle.line.specs.declared.Start.the-variants.{Abs, Rel, Scan, Jog}
+use Rattle.line.specs.declared.Setting.{Setting}
+use Rattle.line.specs.declared.Setting.the-variants.{Preset, SetCwLimit, SetCcwLimit, Select, SetSpeed, SetSwitches, SetMotor}
+use Rattle.orders.specs.Settings.{placeWritten}
+use Rattle.table.specs.Layout.{motorAt}
+use Rattle.laws.specs.Sequences.{Library, Call, after}
+use Rattle.laws.specs.Deeds.{Deed, starts, stops, speeds, sets, reads, ticks, rests, deed}
+
+-- "sixteen signed 32-bit counts": the word of channel c in a pulse buffer
+abbrev pub countAt : List ℕ → ℕ → ℕ
+countAt b c = word (part b (4 * c) 4)
+
+-- "CW positive": the CW pulses that a count tells, and the CCW pulses
+unfoldable pub cwPulses : ℕ → ℕ
+cwPulses n = cond (ltb n 2147483648) n 0
+
+unfoldable pub ccwPulses : ℕ → ℕ
+ccwPulses n = cond (ltb n 2147483648) 0 (4294967296 - n)
+
+-- the last drive of a channel, as far as it has come
+pub record Account : Type 0 where
+  -- it lasts
+  pub lasts : Bool
+  -- its speed in force
+  pub speed : ℕ
+  -- S: "the speeds in force at its accepted ticks", added up
+  pub sum : ℕ
+  -- P: "the pulses given"
+  pub pulses : ℕ
+
+-- no drive yet
+abbrev pub noDrive : Account
+noDrive = record { lasts = false; speed = 0; sum = 0; pulses = 0 }
+
+-- an accepted start is a drive, but for "ABS to the present position, REL 0"
+unfoldable pub setsOff : Motor → Start → Bool
+setsOff m (Abs w) = not (eqb (placeWritten w) (m .place))
+setsOff m (Rel w) = not (eqb (w .digits) 0)
+setsOff m (Scan going) = true
+setsOff m (Jog going) = true
+
+-- what a deed on the motor m is to its account, with the pulses n of the channel's count: "A start takes the selected speed",
+-- "SPC replaces the speed in force", and a tick of a drive adds its speed and its pulses
+unfoldable pub booked : Motor → ℕ → Account → Deed → Account
+booked m n a (starts s) = cond (setsOff m s) (record { lasts = true; speed = selectedSpeed m; sum = 0; pulses = 0 }) a
+booked m n a (stops flags) = a
+booked m n a (speeds v) = record { lasts = a .lasts; speed = v; sum = a .sum; pulses = a .pulses }
+booked m n a (sets s) = a
+booked m n a (reads contacts) = a
+booked m n a ticks =
+    cond (a .lasts) (record { lasts = true; speed = a .speed; sum = a .sum + a .speed; pulses = a .pulses + n }) a
+booked m n a rests = a
+
+-- a drive ends where the channel stands stopped after a call
+abbrev pub closed : Motor → Account → Account
+closed m a = record { lasts = a .lasts && driving m; speed = a .speed; sum = a .sum; pulses = a .pulses }
+
+-- the account after one call on a table
+unfoldable pub entered : Library → ℕ → List ℕ → Account → Call → Account
+entered l c t a k =
+    let u = after l t k in
+    let n = countAt (u .buffer) c in
+    closed (motorAt (u .table) c) (booked (motorAt t c) (cwPulses n + ccwPulses n) a (deed c t k))
+
+-- the account of channel c after a sequence of calls on a table
+unfoldable pub account : Library → ℕ → List ℕ → Account → List Call → Account
+account l c t a [] = a
+account l c t a (k ∷ ks) = account l c (after l t k .table) (entered l c t a k) ks
+
+-- the way of a channel: the place of "its last accepted preset, or zero", and the CW and CCW pulses given since
+pub record Travel : Type 0 where
+  pub preset : ℕ
+  pub cw : ℕ
+  pub ccw : ℕ
+
+-- from zero, with no pulse yet
+abbrev pub noTravel : Travel
+noTravel = record { preset = origin; cw = 0; ccw = 0 }
+
+-- an accepted preset begins the way anew; no other setting is anything to it
+abbrev pub resetBy : Travel → Setting → Travel
+resetBy j (Preset w) = record { preset = placeWritten w; cw = 0; ccw = 0 }
+resetBy j (SetCwLimit w) = j
+resetBy j (SetCcwLimit w) = j
+resetBy j (Select k) = j
+resetBy j (SetSpeed k v) = j
+resetBy j (SetSwitches q r) = j
+resetBy j (SetMotor q) = j
+
+-- what a deed is to the way, with the channel's count n in the pulse buffer
+unfoldable pub moving : ℕ → Travel → Deed → Travel
+moving n j (starts s) = j
+moving n j (stops flags) = j
+moving n j (speeds v) = j
+moving n j (sets s) = resetBy j s
+moving n j (reads contacts) = j
+moving n j ticks = record { preset = j .preset; cw = j .cw + cwPulses n; ccw = j .ccw + ccwPulses n }
+moving n j rests = j
+
+-- the way of channel c after a sequence of calls on a table
+unfoldable pub travel : Library → ℕ → List ℕ → Travel → List Call → Travel
+travel l c t j [] = j
+travel l c t j (k ∷ ks) =
+    let u = after l t k in
+    travel l c (u .table) (moving (countAt (u .buffer) c) j (deed c t k)) ks
