@@ -1,0 +1,152 @@
+-- "A drive to a target at distance D and speed v, with no stop, SPC or switch reading on its channel and D within room, ends at
+-- tick D·1000/v rounded up", over sequences, with any other calls in between. Assumes nothing.
+use mathlib.Core.Path.{_≡_, refl, sym, ap, _∙_}
+use mathlib.Core.List.{List, [], _∷_}
+use mathlib.Core.Bool.{Bool, true, false, _&&_, not, cond, false≢true}
+use Prim.Native.Nat.{ℕ, zero, suc, _+_, _*_, _-_, _≤_, _<_}
+use native.Mathlib.Nat.{zero-add, add-zero}
+use native.Mathlib.Numerals.{add-one}
+use native.Mathlib.Omega.{arith}
+use lib.ListN.{length}
+use lib.Dec.{eqb, leb}
+use borrow.Author.Tests.{eq-eqb, not-true}
+use Rattle.digits.specs.Places.{ahead}
+use Rattle.record.specs.declared.Motor.{Motor}
+use Rattle.record.specs.Record.{withPlace}
+use Rattle.motor.specs.Switches.{room}
+use Rattle.motor.specs.Sound.{driving, soundMotor}
+use Rattle.motor.proofs.SoundLaws.{and-l, and-r}
+use Rattle.drive.specs.declared.Course.{Course}
+use Rattle.drive.specs.declared.Course.the-variants.{To}
+use Rattle.drive.specs.declared.Verdict.the-variants.{Done}
+use Rattle.drive.specs.Drives.{selectedSpeed, towards, judgeStart, wellAimed, started, endedWith}
+use Rattle.drive.specs.Ticks.{tickMotor, ticks, roundedUp}
+use Rattle.drive.proofs.LastTick.{ticks-none, ticks-more, started-drives-before, started-last-tick}
+use Rattle.line.specs.declared.Start.{Start}
+use Rattle.orders.specs.Settings.{courseOf}
+use Rattle.table.specs.Layout.{tableSize, motorAt}
+use Rattle.table.specs.Sound.{soundTable}
+use Rattle.table.proofs.TableLaws.{sound-motor-at}
+use Rattle.laws.specs.Sequences.{urqolina, Call, command, reading, tick, after, run, ran, never}
+use Rattle.laws.specs.Deeds as D
+use Rattle.laws.specs.Deeds.{Deed, deedIf, orderTaken, deed, oneMore, ticksIn}
+use Rattle.laws.specs.Demands.{disturbs, distance, lastTick, Undisturbed, LastTick}
+use Rattle.laws.proofs.DeedLaws.{performed, Fits, fits-start, fits-stop, fits-speed, fits-set, fits-read, fits-tick, fits-rest}
+use Rattle.laws.proofs.Following.{Follows, next}
+use Rattle.laws.proofs.TravelLaws.{isTick, if-tick, taken-tick}
+use Rattle.laws.proofs.LastingLaws.{run-sound, ran-sound}
+
+-- The ticks of a sequence are the calls that are ticks to a channel.
+ticks-in : (c : ℕ) (t : List ℕ) (k : Call) (ks : List Call) → ticksIn (k ∷ ks) ≡ oneMore (isTick (deed c t k)) (ticksIn ks)
+unfolding ticksIn deed
+ticks-in c t (command line reply) ks = rw (taken-tick c (orderTaken t (command line reply)))
+ticks-in c t (reading x n) ks = rw (if-tick (eqb x c && leb n 7) (D.reads n) (unfold isTick in refl))
+ticks-in c t (tick p) ks = go (eqb (length p) 64)
+  where
+    go : (b : Bool) → oneMore b (ticksIn ks) ≡ oneMore (isTick (deedIf b D.ticks)) (ticksIn ks)
+    go true = unfold isTick in refl
+    go false = unfold isTick in refl
+
+-- A motor that has come some ticks on its way goes on with the ticks of a sequence, as long as it drives and nothing disturbs it.
+module _ (c : ℕ) (on : c ≤ 15) (m : Motor) (last : ℕ) (lasts : (k : ℕ) → k < last → driving (ticks k m) ≡ true) where
+  abbrev disturbed : List ℕ → Call → Bool
+  disturbed t k = disturbs (deed c t k)
+
+  -- one call more: n ticks have come before it, and as many as it is after it
+  one-call : (t : List ℕ) (k : Call) (n : ℕ) → soundTable t ≡ true → motorAt t c ≡ ticks n m → disturbed t k ≡ false → n < last
+      → motorAt (after urqolina t k .table) c ≡ ticks (oneMore (isTick (deed c t k)) n) m
+  unfolding disturbs isTick performed
+  one-call t k n s e quiet h = let f = next t k s .follows c on in go (deed c t k) quiet (f .motor) (f .fits)
+    where
+      u : Motor
+      u = motorAt (after urqolina t k .table) c
+
+      drives : driving (motorAt t c) ≡ true
+      drives = rw e (lasts n h)
+
+      go : (d : Deed) → disturbs d ≡ false → u ≡ performed (motorAt t c) d → Fits (motorAt t c) d → u ≡ ticks (oneMore (isTick d) n) m
+      go (D.starts st) q w (fits-start _ still j a r) = absurd (false≢true (sym still ∙ drives))
+      go (D.stops flags) q w f = absurd (false≢true (sym q))
+      go (D.speeds v) q w f = absurd (false≢true (sym q))
+      go (D.sets st) q w (fits-set _ still j a) = absurd (false≢true (sym still ∙ drives))
+      go (D.reads x) q w f = absurd (false≢true (sym q))
+      go D.ticks q w f = rw (w, e, ticks-more n m)
+      go D.rests q w f = w ∙ e
+
+  on-its-way : (later : List Call) (t : List ℕ) (n : ℕ) → soundTable t ≡ true → motorAt t c ≡ ticks n m → never urqolina disturbed t later ≡ true
+      → n + ticksIn later < last → motorAt (run urqolina t later) c ≡ ticks (n + ticksIn later) m
+  unfolding run never
+  on-its-way [] t n s e quiet h = unfold ticksIn in rw add-zero e
+  on-its-way (k ∷ ks) t n s e quiet h =
+      let still = not-true _ (and-l (not (disturbed t k)) _ quiet) in
+      let count = ticks-in c t k ks in
+      let come : n + ticksIn (k ∷ ks) ≡ oneMore (isTick (deed c t k)) n + ticksIn ks = rw count (shift (isTick (deed c t k)) n (ticksIn ks)) in
+      rw come
+      (on-its-way ks (after urqolina t k .table) (oneMore (isTick (deed c t k)) n) (next t k s .sound) (one-call t k n s e still (omega arith)) (and-r (not (disturbed t k)) _ quiet) (rw (← come) h))
+    where
+      shift : (b : Bool) (x y : ℕ) → x + oneMore b y ≡ oneMore b x + y
+      shift true x y = omega arith
+      shift false x y = refl
+
+-- The drive of an accepted start, from the table that it leaves.
+module _ (b : List ℕ) (whole : length b ≡ tableSize) (c : ℕ) (on : c ≤ 15) (ks : List Call) (k : Call) (p : ℕ) (later : List Call) where
+  abbrev t : List ℕ
+  t = ran urqolina b ks
+
+  abbrev u : List ℕ
+  u = after urqolina t k .table
+
+  abbrev m : Motor
+  m = motorAt t c
+
+  s : soundTable t ≡ true
+  s = ran-sound b whole ks
+
+  o : soundMotor m ≡ true
+  o = sound-motor-at t c s on
+
+  -- what an accepted start to the place p has passed
+  pub record Begun : Type 0 where
+    pub judged : judgeStart m (To p) ≡ Done
+    pub aimed : wellAimed m (To p) ≡ true
+    pub motor : motorAt u c ≡ started m (To p)
+
+  begun : Undisturbed urqolina b c ks k p later → Begun
+  unfolding performed
+  begun w =
+      let f : Follows t u c (D.starts (w .start)) = rw (w .begins) at (next t k s .follows c on) in
+      go (f .motor) (f .fits)
+    where
+      go : motorAt u c ≡ performed m (D.starts (w .start)) → Fits m (D.starts (w .start)) → Begun
+      go e (fits-start _ still h a r) = record { judged = rw (w .aimed) at h; aimed = rw (w .aimed) at a; motor = rw (w .aimed) at e }
+
+  -- the table after `later`, while the drive lasts
+  way : (w : Undisturbed urqolina b c ks k p later) → ticksIn later < lastTick urqolina b c ks k p later
+      → motorAt (run urqolina u later) c ≡ ticks (ticksIn later) (started m (To p))
+  way w h =
+      let g = begun w in
+      let first : motorAt u c ≡ ticks 0 (started m (To p)) = g .motor ∙ sym (ticks-none (started m (To p))) in
+      rw zero-add at
+      (on-its-way c on (started m (To p)) (lastTick urqolina b c ks k p later) (started-drives-before m p o (g .judged) (g .aimed) (w .within)) later u 0 (next t k s .sound) first (w .alone) (rw zero-add h))
+
+  before : Undisturbed urqolina b c ks k p later → ticksIn later < lastTick urqolina b c ks k p later → driving (motorAt (run urqolina u later) c) ≡ true
+  before w h =
+      let g = begun w in
+      rw (way w h) (started-drives-before m p o (g .judged) (g .aimed) (w .within) (ticksIn later) h)
+
+  -- the tick that it ends with
+  ended : Undisturbed urqolina b c ks k p later → ticksIn later + 1 ≡ lastTick urqolina b c ks k p later → (pulses : List ℕ) → length pulses ≡ 64
+      → motorAt (after urqolina (run urqolina u later) (tick pulses) .table) c ≡ endedWith 0 (withPlace m p)
+  unfolding performed
+  ended w e pulses long =
+      let g = begun w in
+      let v = run urqolina u later in
+      let f = next v (tick pulses) (run-sound u later (next t k s .sound)) .follows c on in
+      let d : deed c v (tick pulses) ≡ D.ticks = unfold deed in rw (eq-eqb (length pulses) 64 long) in
+      let step : motorAt (after urqolina v (tick pulses) .table) c ≡ tickMotor (motorAt v c) .motor = rw d at (f .motor) in
+      rw (step, way w (omega arith), ← ticks-more (ticksIn later) (started m (To p)), ← add-one (ticksIn later), e)
+      (started-last-tick m p o (g .judged) (g .aimed) (w .within))
+
+  pub last-tick : LastTick urqolina b c ks k p later
+  unfolding after
+  last-tick = record { before = before; with = λ w e pulses long. rw (ended w e pulses long) (refl, refl, refl) }
