@@ -1,22 +1,22 @@
 -- After any call on a sound table the table is sound, and each channel's motor is what the call's deed makes of it. Assumes
 -- nothing.
-use mathlib.Core.Path.{_≡_, refl, sym, ap, _∙_}
+use mathlib.Core.Path.{_≡_, refl, sym}
 use mathlib.Core.List.{List, [], _∷_}
 use mathlib.Core.Bool.{Bool, true, false, _&&_, _||_, not, cond, false≢true, and-true, and-false}
-use Prim.Native.Nat.{ℕ, zero, suc, _+_, _*_, _-_, _/_, _%_, _^_, _≤_, _<_}
+use Prim.Native.Nat.{ℕ, zero, suc, _+_, _-_, _/_, _%_, _^_, _≤_, _<_}
 use native.Mathlib.Omega.{arith}
 use lib.ListN.{length}
 use lib.Dec.{eqb, leb}
 use borrow.Author.Tests.{eq-eqb, ne-eqb, eqb-true, eqb-false, leb-true, leb-false}
-use Rattle.digits.specs.Bytes.{part, put}
+use Rattle.digits.specs.Bytes.{put}
 use Rattle.digits.specs.Words.{isSet, withBit, withoutBit}
 use Rattle.record.specs.declared.Motor.{Motor}
-use Rattle.motor.specs.Sound.{isSpeed, endFlagsInRange, driving, soundMotor}
-use Rattle.motor.proofs.SoundLaws.{and-l, and-r}
+use Rattle.motor.specs.Sound.{endFlagsInRange, driving}
+use Rattle.motor.proofs.SoundLaws.{and-r}
 use Rattle.drive.specs.declared.Verdict.{Verdict}
 use Rattle.drive.specs.declared.Verdict.the-variants.{Done, NoForm, Busy, OutOfRange, LocalMode, Disabled, SwitchAhead, NoRoom, NotDriving, WrongSize, NotSound}
 use Rattle.drive.specs.Numbers.{numberOf}
-use Rattle.drive.specs.Drives.{judgeStart, judgeSpeedChange, wellAimed, started, stopped, speedChanged, switchRead}
+use Rattle.drive.specs.Drives.{wellAimed, started, stopped, speedChanged, switchRead}
 use Rattle.drive.specs.Ticks.{tickMotor}
 use Rattle.drive.proofs.KeptSound.{course-aimed, tick-sound, stopped-sound}
 use Rattle.line.specs.declared.Start.{Start}
@@ -24,26 +24,25 @@ use Rattle.line.specs.declared.Start.the-variants.{Abs, Rel, Scan, Jog}
 use Rattle.line.specs.declared.Setting.{Setting}
 use Rattle.line.specs.declared.Order.{Order}
 use Rattle.line.specs.declared.Order.the-variants.{Go, Stop, StopAll, ChangeSpeed, Set, Ask, Mode, AllReply, AskHead, ClearErrors, ClearError}
-use Rattle.line.specs.declared.Parsed.{Parsed}
-use Rattle.line.specs.declared.Parsed.the-variants.{Is, Nothing}
 use Rattle.line.specs.Forms.{ssend, esend, orderOf}
-use Rattle.line.specs.Made.{onBench, startMade, endFlag, settingMade, orderMade, parsedMade}
+use Rattle.line.specs.Made.{onBench, startMade, endFlag, settingMade, orderMade}
 use Rattle.line.proofs.OrderLaws.{line-made}
-use Rattle.orders.specs.Values.{needsRemote, startInRange, settingInRange, valueInRange}
+use Rattle.orders.specs.Values.{needsRemote, valueInRange}
 use Rattle.orders.specs.Settings.{directionOf, courseOf, withSetting}
 use Rattle.digits.specs.Places.{origin}
-use Rattle.table.specs.Layout.{tableSize, mode, allReply, errors, withErrors, recordStart, recordAt, motorAt, withMotor, withMotors}
+use Rattle.table.specs.Layout.{tableSize, mode, errors, recordStart, recordAt, motorAt, withMotor}
 use Rattle.table.specs.Sound.{soundTable}
 use Rattle.table.proofs.TableLaws.{sound-length, sound-motor-at}
 use Rattle.table.proofs.PieceLaws.{part-after}
 use Rattle.table.proofs.KeptLaws.{written-motor, motor-kept, sound-head-of, head-parts, motor-sound, motors-sound, mode-sound, reply-sound, errors-sound}
 use Rattle.commands.specs.Judging.{busy, judgeMotor, judge}
 use Rattle.commands.specs.Changing.{changed, flagged}
-use Rattle.urqolina.specs.Calls.{refused, obeyed, taken, commandCall, readingCall, tickCall}
-use Rattle.urqolina.proofs.Refusals.{judge-number}
+use Rattle.commands.proofs.ChannelLaws.{named, named-channel}
+use Rattle.urqolina.specs.Calls.{refused, obeyed, commandCall, readingCall, tickCall}
 use Rattle.laws.specs.Sequences.{urqolina, Call, command, reading, tick, after}
-use Rattle.laws.specs.Deeds.{Deed, starts, stops, speeds, sets, reads, ticks, rests, deedIf, orderPassed, orderTaken, deedOf, deedTaken, deed}
+use Rattle.laws.specs.Deeds.{Deed, starts, stops, speeds, sets, reads, ticks, rests, deedIf, deedOf, deedTaken, deed}
 use Rattle.laws.proofs.PartLaws.{motors-motor}
+use Rattle.laws.proofs.CallWays.{verdict, sound-ways}
 use Rattle.laws.proofs.DeedLaws.{performed, Fits, fits-start, fits-stop, fits-speed, fits-set, fits-read, fits-tick, fits-rest, performed-sound}
 
 -- Only `Done` has the number 0.
@@ -123,10 +122,6 @@ module _ (t : List ℕ) (x : ℕ) where
       let p = passed t (Set x s) e in
       fits-set s (p .free) (p .value) (and-r (onBench x) (settingMade s) h)
 
--- A channel that an order names is on the bench.
-bench-channel : (x : ℕ) (b : Bool) → (onBench x && b) ≡ true → x ≤ 15
-bench-channel x b h = leb-true x 15 (and-l (onBench x) b h)
-
 -- what a call does to channel c: the table u after it holds what the deed makes of the motor, and the deed fits it
 pub record Follows (t u : List ℕ) (c : ℕ) (d : Deed) : Type 0 where
   pub motor : motorAt u c ≡ performed (motorAt t c) d
@@ -161,14 +156,14 @@ head-idle t at n c s h = idle t (put t at (n ∷ [])) c (unfold motorAt in rw (h
 -- An accepted order: each channel follows it.
 pub order-follows : (t : List ℕ) (o : Order) (c : ℕ) → soundTable t ≡ true → c ≤ 15 → orderMade o ≡ true → numberOf (judge t o) ≡ 0
     → Follows t (changed t o) c (deedOf c o)
-unfolding changed deedOf orderMade performed
-order-follows t (Go x s) c k h m e = writes t x c (starts s) k (bench-channel x (startMade s) m) (go-fits t x s m e)
-order-follows t (Stop x flags) c k h m e = writes t x c (stops flags) k (bench-channel x (endFlag flags) m) (stop-fits t x flags m)
+unfolding changed deedOf orderMade performed named
+order-follows t (Go x s) c k h m e = writes t x c (starts s) k (named-channel (Go x s) m) (go-fits t x s m e)
+order-follows t (Stop x flags) c k h m e = writes t x c (stops flags) k (named-channel (Stop x flags) m) (stop-fits t x flags m)
 order-follows t (StopAll flags) c k h m e =
     let f = flags-in-range flags m in
     record { motor = motors-motor t (stopped flags) c (sound-length t k) h (stopped-sound flags (motorAt t c) f (sound-motor-at t c k h)); fits = fits-stop flags f }
-order-follows t (ChangeSpeed x v) c k h m e = writes t x c (speeds v) k (leb-true x 15 m) (speed-fits t x v e)
-order-follows t (Set x s) c k h m e = writes t x c (sets s) k (bench-channel x (settingMade s) m) (set-fits t x s m e)
+order-follows t (ChangeSpeed x v) c k h m e = writes t x c (speeds v) k (named-channel (ChangeSpeed x v) m) (speed-fits t x v e)
+order-follows t (Set x s) c k h m e = writes t x c (sets s) k (named-channel (Set x s) m) (set-fits t x s m e)
 order-follows t (Ask x q) c k h m e = idle t t c refl
 order-follows t (Mode n) c k h m e = head-idle t 0 n c k (omega arith)
 order-follows t (AllReply n) c k h m e = head-idle t 1 n c k (omega arith)
@@ -224,19 +219,19 @@ flagged-idle t v c s = head-idle t 2 (withBit (numberOf v - 1) (errors t)) c s (
 
 -- An accepted order leaves a sound table.
 pub changed-sound : (t : List ℕ) (o : Order) → soundTable t ≡ true → orderMade o ≡ true → numberOf (judge t o) ≡ 0 → soundTable (changed t o) ≡ true
-unfolding changed orderMade performed
+unfolding changed orderMade performed named
 changed-sound t (Go x s) k m e =
-    let h = bench-channel x (startMade s) m in
+    let h = named-channel (Go x s) m in
     motor-sound t x (started (motorAt t x) (courseOf (motorAt t x) s)) k h (performed-sound (motorAt t x) (starts s) (sound-motor-at t x k h) (go-fits t x s m e))
 changed-sound t (Stop x flags) k m e =
-    let h = bench-channel x (endFlag flags) m in
+    let h = named-channel (Stop x flags) m in
     motor-sound t x (stopped flags (motorAt t x)) k h (performed-sound (motorAt t x) (stops flags) (sound-motor-at t x k h) (stop-fits t x flags m))
 changed-sound t (StopAll flags) k m e = motors-sound (stopped flags) t k (λ n o. stopped-sound flags n (flags-in-range flags m) o)
 changed-sound t (ChangeSpeed x v) k m e =
-    let h = leb-true x 15 m in
+    let h = named-channel (ChangeSpeed x v) m in
     motor-sound t x (speedChanged (motorAt t x) v) k h (performed-sound (motorAt t x) (speeds v) (sound-motor-at t x k h) (speed-fits t x v e))
 changed-sound t (Set x s) k m e =
-    let h = bench-channel x (settingMade s) m in
+    let h = named-channel (Set x s) m in
     motor-sound t x (withSetting (motorAt t x) s) k h (performed-sound (motorAt t x) (sets s) (sound-motor-at t x k h) (set-fits t x s m e))
 changed-sound t (Ask x q) k m e = k
 changed-sound t (Mode n) k m e = mode-sound t k n (leb-true n 1 m)
@@ -256,28 +251,16 @@ nothing-next t s = record { sound = s; follows = λ c h. idle t t c refl }
 flagged-next : (t : List ℕ) (v : Verdict) → soundTable t ≡ true → 1 ≤ numberOf v → numberOf v ≤ 4 → Next t (flagged t v) (λ c. rests)
 flagged-next t v s low high = record { sound = flagged-sound t v s low high; follows = λ c h. flagged-idle t v c s }
 
--- a line on a sound table
-taken-next : (t : List ℕ) (p : Parsed) (reply : List ℕ) → soundTable t ≡ true → parsedMade p ≡ true
-    → Next t (taken t p reply .table) (λ c. deedTaken c (orderPassed t p))
-unfolding taken refused obeyed
-taken-next t Nothing reply s m = flagged-next t NoForm s (unfold numberOf in omega arith) (unfold numberOf in omega arith)
-taken-next t (Is o) reply s m = go (eqb (numberOf (judge t o)) 0) refl
-  where
-    go : (b : Bool) → eqb (numberOf (judge t o)) 0 ≡ b
-        → Next t (cond b (obeyed t o reply) (refused t (judge t o) reply) .table) (λ c. deedTaken c (cond b (Is o) Nothing))
-    go true e =
-        let z = eqb-true (numberOf (judge t o)) 0 e in
-        record { sound = changed-sound t o s m z; follows = λ c h. order-follows t o c s h m z }
-    go false e = flagged-next t (judge t o) s (omega (arith, eqb-false (numberOf (judge t o)) 0 e)) (judge-number t o)
-
+-- a command
 command-next : (t line reply : List ℕ) → soundTable t ≡ true
     → Next t (commandCall t line reply .table) (λ c. deed c t (command line reply))
-unfolding commandCall deed orderTaken numberOf
-command-next t line reply s = go (leb 32 (length reply)) refl
-  where
-    go : (b : Bool) → leb 32 (length reply) ≡ b → Next t (commandCall t line reply .table) (λ c. deedTaken c (cond b (orderPassed t (orderOf line)) Nothing))
-    go true e = rw (eq-eqb (length t) tableSize (sound-length t s), e, s) (taken-next t (orderOf line) reply s (line-made line))
-    go false e = rw (eq-eqb (length t) tableSize (sound-length t s), e) (nothing-next t s)
+unfolding refused obeyed deed
+command-next t line reply s =
+    sound-ways (λ a p. Next t (a .table) (λ c. deedTaken c p)) t line reply s (nothing-next t s)
+    (flagged-next t (verdict t (orderOf line)) s)
+    (λ o e z.
+    let made : orderMade o ≡ true = rw e at (line-made line) in
+    record { sound = changed-sound t o s made z; follows = λ c h. order-follows t o c s h made z })
 
 -- a switch reading
 reading-next : (t : List ℕ) (x n : ℕ) → soundTable t ≡ true → Next t (readingCall t x n .table) (λ c. deed c t (reading x n))

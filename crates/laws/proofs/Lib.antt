@@ -1,5 +1,6 @@
 pub mod PartLaws
 pub mod DeedLaws
+pub mod CallWays
 pub mod Following
 pub mod AccountLaws
 pub mod TravelLaws

@@ -1,0 +1,186 @@
+-- The bytes that a call leaves as they were, for every table and all inputs. Assumes nothing.
+use mathlib.Core.Path.{_≡_, refl, sym, _∙_}
+use mathlib.Core.List.{List, flatMap}
+use mathlib.Core.Bool.{Bool, true, false, false≢true}
+use Prim.Native.Nat.{ℕ, _%_, _≤_}
+use native.Mathlib.Omega.{arith}
+use lib.ListN.{take, length-take}
+use lib.Dec.{eqb}
+use lib.Seq.{take-at}
+use borrow.Author.Tests.{ne-eqb, eqb-true, eqb-false}
+use Rattle.digits.specs.Bytes.{AllBytes, part}
+use Rattle.digits.specs.Words.{withoutBit}
+use Rattle.digits.proofs.PartLaws.{part-bytes}
+use Rattle.record.specs.declared.Motor.{Motor}
+use Rattle.record.specs.Record.{motorOf, recordOf}
+use Rattle.motor.specs.Sound.{driving}
+use Rattle.motor.proofs.RecordLaws.{sound-read-written}
+use Rattle.drive.specs.Drives.{stopped}
+use Rattle.drive.specs.Ticks.{tickMotor}
+use Rattle.drive.proofs.Laws.{stopped-again, stopped-given-none}
+use Rattle.line.specs.declared.Order.{Order}
+use Rattle.line.specs.declared.Order.the-variants.{Go, Stop, StopAll, ChangeSpeed, Set, Ask, Mode, AllReply, AskHead, ClearErrors, ClearError}
+use Rattle.line.specs.declared.Parsed.{Parsed}
+use Rattle.line.specs.declared.Parsed.the-variants.{Is, Nothing}
+use Rattle.line.specs.Forms.{orderOf}
+use Rattle.line.specs.Made.{orderMade}
+use Rattle.line.proofs.OrderLaws.{line-made}
+use Rattle.table.specs.Layout.{recordStart, recordAt, records, errors, motorAt, withMotor, withMotors}
+use Rattle.table.specs.Sound.{soundTable}
+use Rattle.table.proofs.TableLaws.{sound-length, sound-record-at}
+use Rattle.table.proofs.KeptLaws.{written-record, head-kept, record-kept}
+use Rattle.commands.specs.Changing.{changed, flagged}
+use Rattle.commands.proofs.ChannelLaws.{named, named-channel}
+use Rattle.urqolina.specs.Calls.{refused, obeyed, commandCall, tickCall}
+use Rattle.laws.specs.Sequences.{urqolina, Call, command, reading, tick, after}
+use Rattle.laws.specs.Deeds.{Deed, starts, stops, speeds, sets, reads, ticks, rests, deedIf, names, deedOf}
+use Rattle.laws.specs.Demands.{ofHead, isCommand, Neighbours}
+use Rattle.laws.proofs.PartLaws.{motors-record}
+use Rattle.laws.proofs.CallWays.{command-ways, reading-ways, tick-ways, refused-number}
+use Rattle.laws.proofs.Following.{head-record}
+
+-- A sound record that is read and written back is the same bytes.
+written-back : (t : List ℕ) (d : ℕ) → soundTable t ≡ true → AllBytes t → d ≤ 15 → recordOf (motorAt t d) ≡ recordAt t d
+unfolding motorAt
+written-back t d s bytes h = sound-read-written (recordAt t d) (sound-record-at t d s h) (part-bytes t (recordStart d) 64 bytes)
+
+-- A motor written leaves the record of another channel, and its own where it is what the record holds.
+motor-left : (t : List ℕ) (x : ℕ) (m : Motor) (d : ℕ) → soundTable t ≡ true → x ≤ 15 → (eqb x d ≡ true → recordOf m ≡ recordAt t d)
+    → recordAt (withMotor t x m) d ≡ recordAt t d
+motor-left t x m d s h same = go (eqb x d) refl
+  where
+    go : (b : Bool) → eqb x d ≡ b → recordAt (withMotor t x m) d ≡ recordAt t d
+    go true e = rw (← eqb-true x d e) (written-record t x m (sound-length t s) h ∙ rw (eqb-true x d e) (same e))
+    go false e = record-kept t x m (sound-length t s) h d (λ q. eqb-false x d e (sym q))
+
+-- a deed that can leave a record: a stop, and what is nothing to its channel
+abbrev quiet : Deed → Bool
+quiet (starts s) = false
+quiet (stops flags) = true
+quiet (speeds v) = false
+quiet (sets s) = false
+quiet (reads n) = false
+quiet ticks = false
+quiet rests = true
+
+-- a stop would leave the record of channel d, which is on the bench
+abbrev StopLeaves : List ℕ → ℕ → Deed → Type 0
+StopLeaves t d k = (flags : ℕ) → k ≡ stops flags → (d ≤ 15) × (recordOf (stopped flags (motorAt t d)) ≡ recordAt t d)
+
+-- An order of a line that is nothing to a channel, or a stop that leaves its motor, leaves its record.
+changed-left : (t : List ℕ) (o : Order) (d : ℕ) → soundTable t ≡ true → orderMade o ≡ true → quiet (deedOf d o) ≡ true
+    → StopLeaves t d (deedOf d o) → recordAt (changed t o) d ≡ recordAt t d
+unfolding changed deedOf named
+changed-left t (Go x a) d s made q stop = motor-left t x _ d s (named-channel (Go x a) made) (λ e. absurd (false≢true (rw e at q)))
+changed-left t (Stop x f) d s made q stop = motor-left t x _ d s (named-channel (Stop x f) made) (λ e. rw (eqb-true x d e) (stop f (rw e) .1))
+changed-left t (StopAll f) d s made q stop = let same = stop f refl in motors-record t (stopped f) d (sound-length t s) (same .0) ∙ same .1
+changed-left t (ChangeSpeed x v) d s made q stop = motor-left t x _ d s (named-channel (ChangeSpeed x v) made) (λ e. absurd (false≢true (rw e at q)))
+changed-left t (Set x a) d s made q stop = motor-left t x _ d s (named-channel (Set x a) made) (λ e. absurd (false≢true (rw e at q)))
+changed-left t (Ask x a) d s made q stop = refl
+changed-left t (Mode k) d s made q stop = head-record t 0 k d (sound-length t s) (omega arith)
+changed-left t (AllReply k) d s made q stop = head-record t 1 k d (sound-length t s) (omega arith)
+changed-left t (AskHead a) d s made q stop = refl
+changed-left t ClearErrors d s made q stop = head-record t 2 0 d (sound-length t s) (omega arith)
+changed-left t (ClearError e) d s made q stop = head-record t 2 (withoutBit e (errors t)) d (sound-length t s) (omega arith)
+
+-- the table after what a line is, were it accepted
+abbrev obeyedTable : List ℕ → Parsed → List ℕ
+obeyedTable t (Is o) = changed t o
+obeyedTable t Nothing = t
+
+-- So does the command, on any table: a refusal writes to the head at most.
+command-left : (t line reply : List ℕ) (o : Order) (d : ℕ) → orderOf line ≡ Is o → quiet (deedOf d o) ≡ true
+    → (soundTable t ≡ true → StopLeaves t d (deedOf d o)) → recordAt (commandCall t line reply .table) d ≡ recordAt t d
+unfolding refused obeyed flagged
+command-left t line reply o d e q stop =
+    let made : orderMade o ≡ true = rw e at (line-made line) in
+    let same : soundTable t ≡ true → recordAt (obeyedTable t (orderOf line)) d ≡ recordAt t d = λ s. rw e (changed-left t o d s made q (stop s)) in
+    command-ways (λ a. recordAt (a .table) d ≡ recordAt t d) t line reply (λ n l h. refl)
+    (λ s v l h. head-record t 2 _ d (sound-length t s) (omega arith)) (λ s p f. rw f at (same s))
+
+-- A line that is nothing to a channel leaves its record, and a stop leaves that of a motor that stands stopped.
+unreached : (t line reply : List ℕ) (o : Order) (d : ℕ) → orderOf line ≡ Is o → deedOf d o ≡ rests
+    → recordAt (commandCall t line reply .table) d ≡ recordAt t d
+unreached t line reply o d e q =
+    command-left t line reply o d e (rw q) (λ s flags f. absurd (false≢true (cc (q, f))))
+
+still : (t line reply : List ℕ) (o : Order) (flags d : ℕ) → AllBytes t → d ≤ 15 → orderOf line ≡ Is o → deedOf d o ≡ stops flags
+    → driving (motorAt t d) ≡ false → recordAt (commandCall t line reply .table) d ≡ recordAt t d
+still t line reply o flags d bytes h e q stands =
+    command-left t line reply o d e (rw q) (λ s f k. (h, rw (stopped-again f (motorAt t d) stands) (written-back t d s bytes h)))
+
+-- A tick leaves it too.
+unticked : (t p : List ℕ) (d : ℕ) → AllBytes t → d ≤ 15 → driving (motorAt t d) ≡ false → recordAt (tickCall t p .table) d ≡ recordAt t d
+unticked t p d bytes h stands =
+    tick-ways (λ a. recordAt (a .table) d ≡ recordAt t d) t p (λ n l m. refl)
+    (λ s. motors-record t (λ m. tickMotor m .motor) d (sound-length t s) h ∙ rw (stopped-given-none (motorAt t d) stands) (written-back t d s bytes h))
+
+-- An order that names channel x is nothing to the others.
+elsewhere : (y x d : ℕ) (k : Deed) → eqb y x ≡ true → (d ≡ x → ⊥) → deedIf (eqb y d) k ≡ rests
+elsewhere y x d k e ne = rw (ne-eqb y d (λ same. ne (sym same ∙ eqb-true y x e)))
+
+named-rests : (o : Order) (x d : ℕ) → names x o ≡ true → (d ≡ x → ⊥) → deedOf d o ≡ rests
+unfolding names deedOf
+named-rests (Go y s) x d e ne = elsewhere y x d (starts s) e ne
+named-rests (Stop y flags) x d e ne = elsewhere y x d (stops flags) e ne
+named-rests (StopAll flags) x d e ne = absurd (false≢true e)
+named-rests (ChangeSpeed y v) x d e ne = elsewhere y x d (speeds v) e ne
+named-rests (Set y s) x d e ne = elsewhere y x d (sets s) e ne
+named-rests (Ask y q) x d e ne = refl
+named-rests (Mode k) x d e ne = refl
+named-rests (AllReply k) x d e ne = refl
+named-rests (AskHead q) x d e ne = refl
+named-rests ClearErrors x d e ne = refl
+named-rests (ClearError n) x d e ne = refl
+
+-- Sixteen motors changed leave the head.
+motors-head : (t : List ℕ) (f : Motor → Motor) → soundTable t ≡ true → part (withMotors t f) 0 64 ≡ part t 0 64
+unfolding withMotors part
+motors-head t f s =
+    let e = sound-length t s in
+    take-at (take 64 t) (flatMap (λ r. recordOf (f (motorOf r))) (records t)) 64 (rw length-take (omega arith))
+
+-- An accepted order of a line that is not of the head leaves the head.
+changed-head : (t : List ℕ) (o : Order) → soundTable t ≡ true → orderMade o ≡ true → ofHead o ≡ false → part (changed t o) 0 64 ≡ part t 0 64
+unfolding changed ofHead named
+changed-head t (Go x a) s made q = head-kept t x _ (sound-length t s) (named-channel (Go x a) made) 0 64 (omega arith)
+changed-head t (Stop x f) s made q = head-kept t x _ (sound-length t s) (named-channel (Stop x f) made) 0 64 (omega arith)
+changed-head t (StopAll f) s made q = motors-head t (stopped f) s
+changed-head t (ChangeSpeed x v) s made q = head-kept t x _ (sound-length t s) (named-channel (ChangeSpeed x v) made) 0 64 (omega arith)
+changed-head t (Set x a) s made q = head-kept t x _ (sound-length t s) (named-channel (Set x a) made) 0 64 (omega arith)
+changed-head t (Ask x a) s made q = refl
+changed-head t (Mode k) s made q = absurd (false≢true (sym q))
+changed-head t (AllReply k) s made q = absurd (false≢true (sym q))
+changed-head t (AskHead a) s made q = refl
+changed-head t ClearErrors s made q = absurd (false≢true (sym q))
+changed-head t (ClearError e) s made q = absurd (false≢true (sym q))
+
+head : (t line reply : List ℕ) (o : Order) → orderOf line ≡ Is o → ofHead o ≡ false → commandCall t line reply .result % 256 ≡ 0
+    → part (commandCall t line reply .table) 0 64 ≡ part t 0 64
+unfolding obeyed
+head t line reply o e q =
+    let made : orderMade o ≡ true = rw e at (line-made line) in
+    let same : soundTable t ≡ true → part (obeyedTable t (orderOf line)) 0 64 ≡ part t 0 64 = λ s. rw e (changed-head t o s made q) in
+    command-ways (λ a. a .result % 256 ≡ 0 → part (a .table) 0 64 ≡ part t 0 64) t line reply (λ n l h z. refl)
+    (λ s v l h z. absurd (omega (arith, refused-number t v reply h, z))) (λ s p f z. rw f at (same s))
+
+-- Readings and ticks leave it.
+head-left : (t : List ℕ) (k : Call) → isCommand k ≡ false → part (after urqolina t k .table) 0 64 ≡ part t 0 64
+unfolding after
+head-left t (command line reply) q = absurd (false≢true (sym q))
+head-left t (reading c n) q =
+    reading-ways (λ a. part (a .table) 0 64 ≡ part t 0 64) t c n (λ k l h. refl) (λ s h. head-kept t c _ (sound-length t s) h 0 64 (omega arith))
+head-left t (tick p) q = tick-ways (λ a. part (a .table) 0 64 ≡ part t 0 64) t p (λ n l h. refl) (motors-head t (λ m. tickMotor m .motor))
+
+-- The bytes that the demands ask to be left.
+pub neighbours : Neighbours urqolina
+neighbours = record {
+  others = λ t line reply o x d e n ne. unreached t line reply o d e (named-rests o x d n ne);
+  unreached = unreached;
+  stopped = still;
+  unticked = unticked;
+  readings = λ t c n d ne.
+      reading-ways (λ a. recordAt (a .table) d ≡ recordAt t d) t c n (λ k l h. refl) (λ s h. record-kept t c _ (sound-length t s) h d ne);
+  head = head;
+  headLeft = head-left;
+}
