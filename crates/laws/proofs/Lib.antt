@@ -2,8 +2,10 @@ pub mod PartLaws
 pub mod DeedLaws
 pub mod CallWays
 pub mod Following
+pub mod NumberLaws
+pub mod NeighbourLaws
+pub mod LastingLaws
 pub mod AccountLaws
 pub mod TravelLaws
-pub mod LastingLaws
 pub mod PulseLaws
 pub mod LastTickLaws
