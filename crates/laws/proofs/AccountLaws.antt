@@ -1,11 +1,12 @@
 -- The account of a channel's drives, deed by deed: what is booked from outside is what the motor holds. Assumes nothing.
 use mathlib.Core.Path.{_≡_, refl, sym, ap, subst, _∙_}
-use mathlib.Core.Bool.{Bool, true, false, _&&_, not, cond, false≢true, and-false, and-self}
+use mathlib.Core.Bool.{Bool, true, false, _&&_, _||_, not, cond, false≢true, and-false, and-self}
+use mathlib.Core.Logic.{_⊎_, inl, inr, ⊎-elim}
 use Prim.Native.Nat.{ℕ, _+_, _*_, _-_, _≤_, _<_}
 use native.Mathlib.Omega.{arith}
-use lib.Dec.{eqb}
-use borrow.Author.Tests.{eqb-true, eqb-false, eq-eqb, ne-eqb, not-true, not-false}
-use Rattle.digits.specs.Places.{origin, isPosition, moved}
+use lib.Dec.{eqb, ltb}
+use borrow.Author.Tests.{eqb-true, eqb-false, eq-eqb, ne-eqb, lt-ltb, le-ltb, not-true, not-false}
+use Rattle.digits.specs.Places.{origin, isPosition, moved, cw, ccw}
 use Rattle.record.specs.declared.Motor.{Motor}
 use Rattle.record.specs.Record.{standing}
 use Rattle.motor.specs.Switches.{blocked}
@@ -22,30 +23,33 @@ use Rattle.drive.specs.Ticks.{tickSpeed, tickMotor}
 use Rattle.drive.proofs.Laws.{stopped-given-none, stopped-stands, stopped-again}
 use Rattle.drive.proofs.TickLaws.{carried, never-early, drive-stays, drive-ends}
 use Rattle.drive.proofs.KeptSound.{towards-ahead}
+use Rattle.line.specs.declared.Written.{Written}
 use Rattle.line.specs.declared.Start.{Start}
 use Rattle.line.specs.declared.Start.the-variants.{Abs, Rel, Scan, Jog}
 use Rattle.line.specs.declared.Setting.{Setting}
 use Rattle.line.specs.declared.Setting.the-variants.{Preset, SetCwLimit, SetCcwLimit, Select, SetSpeed, SetSwitches, SetMotor}
+use Rattle.line.specs.Made.{direction, startMade}
 use Rattle.orders.specs.Settings.{directionOf, courseOf, withSetting}
 use Rattle.laws.specs.Deeds.{Deed, starts, stops, speeds, sets, reads, ticks, rests}
-use Rattle.laws.specs.Ledger.{Account, setsOff, booked, closed}
+use Rattle.laws.specs.Ledger.{Account, setsOff, wayOf, booked, closed}
 use Rattle.laws.proofs.DeedLaws.{performed, Fits, fits-start, fits-stop, fits-speed, fits-set, fits-read, fits-tick, fits-rest}
 
--- a motor that has just been started: it drives, at the selected speed, with fraction 0
-pub data Leaves (m : Motor) : Motor → Type 0 where
-  leaves : (going kind target : ℕ) → 1 ≤ going → Leaves m (launched m going kind target)
+-- a motor that has just been started in a direction: it drives, at the selected speed, with fraction 0
+pub data Leaves (m : Motor) (going : ℕ) : Motor → Type 0 where
+  leaves : (kind target : ℕ) → 1 ≤ going → Leaves m going (launched m going kind target)
 
--- A start to another place that is accepted leaves; one to the place where the motor stands changes nothing.
+-- A start to another place that is accepted leaves towards it; one to the place where the motor stands changes nothing.
 module _ (m : Motor) (going p n : ℕ) where
-  to-leaves : eqb (moved going p n) (m .place) ≡ false → judgeStart m (courseTo m going p n) ≡ Done → Leaves m (started m (courseTo m going p n))
+  to-leaves : eqb (moved going p n) (m .place) ≡ false → judgeStart m (courseTo m going p n) ≡ Done
+      → Leaves m (towards m (moved going p n)) (started m (courseTo m going p n))
   unfolding courseTo judgeStart started
   to-leaves e = rw e (go (isPosition (moved going p n)))
     where
       q : ℕ
       q = moved going p n
 
-      go : (b : Bool) → judgeStart m (cond b (To q) Beyond) ≡ Done → Leaves m (started m (cond b (To q) Beyond))
-      go true h = leaves (towards m q) 1 q (towards-ahead m q e .0)
+      go : (b : Bool) → judgeStart m (cond b (To q) Beyond) ≡ Done → Leaves m (towards m q) (started m (cond b (To q) Beyond))
+      go true h = leaves 1 q (towards-ahead m q e .0)
       go false h =
           let never : false ≡ true = cc in
           absurd (false≢true never)
@@ -54,30 +58,51 @@ module _ (m : Motor) (going p n : ℕ) where
   unfolding courseTo started
   to-stays e = rw e
 
--- A place some pulses away is another place.
-away : (m : Motor) (going n : ℕ) → soundMotor m ≡ true → 1 ≤ n → eqb (moved going (m .place) n) (m .place) ≡ false
-away m going n s h = go (eqb going 1)
+-- A direction is CW or CCW.
+two-ways : (going : ℕ) → direction going ≡ true → (going ≡ cw) ⊎ (going ≡ ccw)
+two-ways going h = go (eqb going cw) refl h
   where
-    go : (b : Bool) → eqb (cond b (m .place + n) (m .place - n)) (m .place) ≡ false
-    go true = ne-eqb (m .place + n) (m .place) (omega arith)
-    go false = ne-eqb (m .place - n) (m .place) (omega (arith, sound-bounds m s .place))
+    go : (b : Bool) → eqb going cw ≡ b → (b || eqb going ccw) ≡ true → (going ≡ cw) ⊎ (going ≡ ccw)
+    go true e h = inl (eqb-true going cw e)
+    go false e h = inr (eqb-true going ccw h)
 
-two-ways : (m : Motor) (going : ℕ) → wellAimed m (Along going) ≡ true → 1 ≤ going
-two-ways m going h = go (eqb going 0) refl
+-- A place some pulses away is another place, and lies in the direction that leads there.
+module _ (m : Motor) (going n : ℕ) (s : soundMotor m ≡ true) (h : 1 ≤ n) (d : direction going ≡ true) where
+  away : eqb (moved going (m .place) n) (m .place) ≡ false
+  away = go (eqb going cw)
+    where
+      go : (b : Bool) → eqb (cond b (m .place + n) (m .place - n)) (m .place) ≡ false
+      go true = ne-eqb (m .place + n) (m .place) (omega arith)
+      go false = ne-eqb (m .place - n) (m .place) (omega (arith, sound-bounds m s .place))
+
+  there : towards m (moved going (m .place) n) ≡ going
+  unfolding towards
+  there = go (two-ways going d)
+    where
+      go : (going ≡ cw) ⊎ (going ≡ ccw) → cond (ltb (m .place) (moved going (m .place) n)) cw ccw ≡ going
+      go (inl e) = rw (e, lt-ltb (m .place) (m .place + n) (omega arith))
+      go (inr e) = rw (e, le-ltb (m .place) (m .place - n) (omega arith))
+
+  by-leaves : judgeStart m (courseTo m going (m .place) n) ≡ Done → Leaves m going (started m (courseTo m going (m .place) n))
+  by-leaves j = rw there at (to-leaves m going (m .place) n away j)
+
+-- A sign is a direction.
+sign-direction : (w : Written) → direction (directionOf w) ≡ true
+sign-direction w = go (w .minus)
   where
-    go : (b : Bool) → eqb going 0 ≡ b → 1 ≤ going
-    go true e = absurd (false≢true (rw (eqb-true going 0 e) at h))
-    go false e = omega (arith, eqb-false going 0 e)
+    go : (b : Bool) → direction (cond b ccw cw) ≡ true
+    go true = refl
+    go false = refl
 
--- An accepted start that sets off leaves.
-pub off-leaves : (m : Motor) (s : Start) → soundMotor m ≡ true → judgeStart m (courseOf m s) ≡ Done → wellAimed m (courseOf m s) ≡ true
-    → setsOff m s ≡ true → Leaves m (started m (courseOf m s))
-unfolding setsOff
-off-leaves m (Abs w) s h a e = to-leaves m (directionOf w) origin (w .digits) (not-true _ e) h
-off-leaves m (Rel w) s h a e =
-    to-leaves m (directionOf w) (m .place) (w .digits) (away m (directionOf w) (w .digits) s (omega (arith, eqb-false (w .digits) 0 (not-true _ e)))) h
-off-leaves m (Scan going) s h a e = unfold started in leaves going 0 origin (two-ways m going a)
-off-leaves m (Jog going) s h a e = to-leaves m going (m .place) 1 (away m going 1 s (omega arith)) h
+-- An accepted start that sets off leaves in the direction that it asks for.
+pub off-leaves : (m : Motor) (s : Start) → soundMotor m ≡ true → judgeStart m (courseOf m s) ≡ Done → startMade s ≡ true
+    → setsOff m s ≡ true → Leaves m (wayOf m s) (started m (courseOf m s))
+unfolding setsOff wayOf
+off-leaves m (Abs w) s h d e = to-leaves m (directionOf w) origin (w .digits) (not-true _ e) h
+off-leaves m (Rel w) s h d e =
+    by-leaves m (directionOf w) (w .digits) s (omega (arith, eqb-false (w .digits) 0 (not-true _ e))) (sign-direction w) h
+off-leaves m (Scan going) s h d e = unfold started in leaves 0 origin (⊎-elim (λ q. omega (arith, q)) (λ q. omega (arith, q)) (two-ways going d))
+off-leaves m (Jog going) s h d e = by-leaves m going 1 s (omega arith) d h
 
 -- One that does not changes nothing.
 pub off-stays : (m : Motor) (s : Start) → setsOff m s ≡ false → started m (courseOf m s) ≡ m
@@ -92,6 +117,7 @@ off-stays m (Jog going) e = absurd (false≢true (sym e))
 -- what the account and the motor have to say of each other
 pub record Balanced (m : Motor) (a : Account) : Type 0 where
   pub lasting : a .lasts ≡ driving m
+  pub going : driving m ≡ true → a .going ≡ m .drive .going
   pub speed : driving m ≡ true → a .speed ≡ m .drive .speed
   pub exact : driving m ≡ true → 1000 * a .pulses + m .drive .fraction ≡ a .sum
   pub most : 1000 * a .pulses ≤ a .sum
@@ -100,12 +126,12 @@ pub record Balanced (m : Motor) (a : Account) : Type 0 where
 same-drive : (m n : Motor) (a : Account) → n .drive ≡ m .drive → Balanced m a → Balanced n (closed n a)
 same-drive m n a e b =
     rw e
-    (record { lasting = rw (b .lasting) (and-self (driving m)); speed = b .speed; exact = b .exact; most = b .most })
+    (record { lasting = rw (b .lasting) (and-self (driving m)); going = b .going; speed = b .speed; exact = b .exact; most = b .most })
 
 no-drive : (n : Motor) (a : Account) → n .drive ≡ standing → 1000 * a .pulses ≤ a .sum → Balanced n (closed n a)
 no-drive n a e h =
     rw e
-    (record { lasting = and-false (a .lasts); speed = λ d. absurd (false≢true d); exact = λ d. absurd (false≢true d); most = h })
+    (record { lasting = and-false (a .lasts); going = λ d. absurd (false≢true d); speed = λ d. absurd (false≢true d); exact = λ d. absurd (false≢true d); most = h })
 
 -- No setting touches the drive.
 pub set-drive : (m : Motor) (s : Setting) → withSetting m s .drive ≡ m .drive
@@ -119,16 +145,16 @@ set-drive m (SetSwitches q r) = refl
 set-drive m (SetMotor q) = refl
 
 start-balanced : (m : Motor) (s : Start) (n : ℕ) (a : Account) → soundMotor m ≡ true → judgeStart m (courseOf m s) ≡ Done
-    → wellAimed m (courseOf m s) ≡ true → Balanced m a → Balanced (started m (courseOf m s)) (closed (started m (courseOf m s)) (booked m n a (starts s)))
+    → startMade s ≡ true → Balanced m a → Balanced (started m (courseOf m s)) (closed (started m (courseOf m s)) (booked m n a (starts s)))
 unfolding booked
 start-balanced m s n a o h w b = go (setsOff m s) refl
   where
     new : Account
-    new = record { lasts = true; speed = selectedSpeed m; sum = 0; pulses = 0 }
+    new = record { lasts = true; going = wayOf m s; speed = selectedSpeed m; sum = 0; pulses = 0 }
 
-    launch : {l : Motor} → Leaves m l → Balanced l (closed l new)
-    launch (leaves going kind target g) =
-        record { lasting = refl; speed = λ d. refl; exact = λ d. refl; most = omega arith }
+    launch : {l : Motor} → Leaves m (wayOf m s) l → Balanced l (closed l new)
+    launch (leaves kind target g) =
+        record { lasting = refl; going = λ d. refl; speed = λ d. refl; exact = λ d. refl; most = omega arith }
 
     go : (t : Bool) → setsOff m s ≡ t → Balanced (started m (courseOf m s)) (closed (started m (courseOf m s)) (cond t new a))
     go true e = launch (off-leaves m s o h w e)
@@ -142,9 +168,9 @@ stop-balanced m flags a b = go (driving m) refl
     go false d = rw (stopped-again flags m d) (same-drive m m a refl b)
 
 speed-balanced : (m : Motor) (v : ℕ) (a : Account) → driving m ≡ true → Balanced m a
-    → Balanced (speedChanged m v) (closed (speedChanged m v) (record { lasts = a .lasts; speed = v; sum = a .sum; pulses = a .pulses }))
+    → Balanced (speedChanged m v) (closed (speedChanged m v) (record { lasts = a .lasts; going = a .going; speed = v; sum = a .sum; pulses = a .pulses }))
 unfolding speedChanged
-speed-balanced m v a d b = record { lasting = rw (b .lasting) (and-self (driving m)); speed = λ e. refl; exact = b .exact; most = b .most }
+speed-balanced m v a d b = record { lasting = rw (b .lasting) (and-self (driving m)); going = b .going; speed = λ e. refl; exact = b .exact; most = b .most }
 
 read-balanced : (m : Motor) (n : ℕ) (a : Account) → Balanced m a → Balanced (switchRead m n) (closed (switchRead m n) a)
 unfolding switchRead
@@ -166,13 +192,13 @@ tick-balanced : (m : Motor) (n : ℕ) (a : Account) → n ≡ tickMotor m .pulse
     → Balanced (tickMotor m .motor) (closed (tickMotor m .motor) (booked m n a ticks))
 unfolding booked
 tick-balanced m n a p b =
-    subst (λ (t : Bool). Balanced (tickMotor m .motor) (closed (tickMotor m .motor) (cond t (record { lasts = true; speed = a .speed; sum = a .sum + a .speed; pulses = a .pulses + n }) a))) (sym (b .lasting)) (go (driving m) refl)
+    subst (λ (t : Bool). Balanced (tickMotor m .motor) (closed (tickMotor m .motor) (cond t (record { lasts = true; going = a .going; speed = a .speed; sum = a .sum + a .speed; pulses = a .pulses + n }) a))) (sym (b .lasting)) (go (driving m) refl)
   where
     m' : Motor
     m' = tickMotor m .motor
 
     more : Account
-    more = record { lasts = true; speed = a .speed; sum = a .sum + a .speed; pulses = a .pulses + n }
+    more = record { lasts = true; going = a .going; speed = a .speed; sum = a .sum + a .speed; pulses = a .pulses + n }
 
     go : (t : Bool) → driving m ≡ t → Balanced m' (closed m' (cond t more a))
     go false d = same-drive m m' a (ap (λ (x : Ticked). x .motor .drive) (stopped-given-none m d)) b
@@ -180,6 +206,7 @@ tick-balanced m n a p b =
         let v : tickSpeed m ≡ a .speed = speed-in-force m d ∙ sym (b .speed d) in
         (record {
           lasting = refl;
+          going = λ e. b .going d ∙ sym (drive-stays m e .going);
           speed = λ e. b .speed d ∙ sym (drive-stays m e .speed);
           exact = λ e. omega (arith, p, v, carried m e, b .exact d);
           most = omega (arith, p, v, never-early m, b .exact d);
@@ -189,7 +216,7 @@ tick-balanced m n a p b =
 pub performed-balanced : (m : Motor) (d : Deed) (n : ℕ) (a : Account) → soundMotor m ≡ true → Fits m d → (d ≡ ticks → n ≡ tickMotor m .pulses) → Balanced m a
     → Balanced (performed m d) (closed (performed m d) (booked m n a d))
 unfolding performed booked
-performed-balanced m (starts s) n a o (fits-start _ still h w r) p b = start-balanced m s n a o h w b
+performed-balanced m (starts s) n a o (fits-start _ still h w r) p b = start-balanced m s n a o h r b
 performed-balanced m (stops flags) n a o f p b = stop-balanced m flags a b
 performed-balanced m (speeds v) n a o (fits-speed _ d h) p b = speed-balanced m v a d b
 performed-balanced m (sets s) n a o f p b = same-drive m (withSetting m s) a (set-drive m s) b

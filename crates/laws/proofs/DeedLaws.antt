@@ -22,8 +22,8 @@ use Rattle.line.specs.declared.Four.{Four}
 use Rattle.line.specs.declared.Start.{Start}
 use Rattle.line.specs.declared.Setting.{Setting}
 use Rattle.line.specs.declared.Setting.the-variants.{Preset, SetCwLimit, SetCcwLimit, Select, SetSpeed, SetSwitches, SetMotor}
-use Rattle.line.specs.Made.{settingMade}
-use Rattle.orders.specs.Values.{signedInRange, binaryDigits, setupWritten, startInRange, settingInRange}
+use Rattle.line.specs.Made.{startMade, settingMade}
+use Rattle.orders.specs.Values.{signedInRange, binaryDigits, setupWritten, settingInRange}
 use Rattle.orders.specs.Settings.{directionOf, placeWritten, courseOf, selecting, withSpeed, binary, withSetting}
 use Rattle.orders.proofs.ValueLaws.{signed-bound, Binary, binary-bound}
 use Rattle.laws.specs.Deeds.{Deed, starts, stops, speeds, sets, reads, ticks, rests}
@@ -40,7 +40,7 @@ performed m rests = m
 
 -- what is known of a deed that was accepted, and of its motor
 pub data Fits (m : Motor) : Deed → Type 0 where
-  fits-start : (s : Start) → driving m ≡ false → judgeStart m (courseOf m s) ≡ Done → wellAimed m (courseOf m s) ≡ true → startInRange s ≡ true → Fits m (starts s)
+  fits-start : (s : Start) → driving m ≡ false → judgeStart m (courseOf m s) ≡ Done → wellAimed m (courseOf m s) ≡ true → startMade s ≡ true → Fits m (starts s)
   fits-stop : (flags : ℕ) → endFlagsInRange flags ≡ true → Fits m (stops flags)
   fits-speed : (v : ℕ) → driving m ≡ true → isSpeed v ≡ true → Fits m (speeds v)
   fits-set : (s : Setting) → driving m ≡ false → settingInRange s ≡ true → settingMade s ≡ true → Fits m (sets s)

@@ -104,7 +104,8 @@ module _ (t : List ℕ) (x : ℕ) where
   unfolding orderMade valueInRange busy judgeMotor
   go-fits s h e =
       let p = passed t (Go x s) e in
-      fits-start s (p .free) (p .motor) (start-aimed (motorAt t x) s (and-r (onBench x) (startMade s) h)) (p .value)
+      let made = and-r (onBench x) (startMade s) h in
+      fits-start s (p .free) (p .motor) (start-aimed (motorAt t x) s made) made
 
   stop-fits : (flags : ℕ) → orderMade (Stop x flags) ≡ true → Fits (motorAt t x) (stops flags)
   unfolding orderMade

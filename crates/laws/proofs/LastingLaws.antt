@@ -11,10 +11,11 @@ use Rattle.table.specs.Layout.{tableSize, freshTable}
 use Rattle.table.specs.Sound.{soundTable}
 use Rattle.table.proofs.KeptLaws.{fresh-sound}
 use Rattle.urqolina.specs.Calls.{TableAfter, freshCall, commandCall, readingCall, tickCall}
-use Rattle.urqolina.proofs.Refusals.{fresh-made, command-size, command-accepted, reading-size, reading-accepted, tick-size, tick-accepted}
+use Rattle.urqolina.proofs.Refusals.{fresh-made, command-accepted, reading-accepted, tick-accepted}
 use Rattle.laws.specs.Sequences.{urqolina, Call, command, reading, tick, after, run, ran}
-use Rattle.laws.specs.Demands.{Lasting}
+use Rattle.laws.specs.Demands.{sizesRight, Lasting}
 use Rattle.laws.proofs.Following.{next}
+use Rattle.laws.proofs.NumberLaws.{numbers}
 
 -- A fresh call on a table's bytes makes the fresh table, whatever they were.
 pub made-fresh : (b : List ℕ) → length b ≡ tableSize → freshCall b .table ≡ freshTable
@@ -29,35 +30,20 @@ run-sound t (k ∷ ks) s = run-sound (after urqolina t k .table) ks (next t k s 
 pub ran-sound : (b : List ℕ) → length b ≡ tableSize → (ks : List Call) → soundTable (ran urqolina b ks) ≡ true
 ran-sound b e ks = rw (made-fresh b e) (run-sound freshTable ks fresh-sound)
 
--- On a sound table no call gives 6.
-module _ (t : List ℕ) (s : soundTable t ≡ true) where
-  command-six : (line reply : List ℕ) → commandCall t line reply .result % 256 ≡ 6 → ⊥
-  command-six line reply = go (eqb (length t) tableSize && leb 32 (length reply)) refl
-    where
-      go : (b : Bool) → (eqb (length t) tableSize && leb 32 (length reply)) ≡ b → commandCall t line reply .result % 256 ≡ 6 → ⊥
-      go true e h = absurd (omega (arith, h, command-accepted t line reply e s))
-      go false e h = absurd (omega (arith, rw (command-size t line reply e) at h))
+-- On a sound table no call gives 6: with the sizes right it gives 4 at most.
+taken-number : (t : List ℕ) (k : Call) → soundTable t ≡ true → sizesRight t k ≡ true → after urqolina t k .result % 256 ≤ 4
+unfolding after
+taken-number t (command line reply) s e = command-accepted t line reply e s
+taken-number t (reading c n) s e = rw (reading-accepted t c n e s) (omega arith)
+taken-number t (tick p) s e = rw (tick-accepted t p e s) (omega arith)
 
-  reading-six : (c n : ℕ) → readingCall t c n .result % 256 ≡ 6 → ⊥
-  reading-six c n = go (eqb (length t) tableSize && leb c 15 && leb n 7) refl
-    where
-      go : (b : Bool) → (eqb (length t) tableSize && leb c 15 && leb n 7) ≡ b → readingCall t c n .result % 256 ≡ 6 → ⊥
-      go true e h = absurd (omega (arith, h, reading-accepted t c n e s))
-      go false e h = absurd (omega (arith, rw (reading-size t c n e) at h))
-
-  tick-six : (p : List ℕ) → tickCall t p .result % 256 ≡ 6 → ⊥
-  tick-six p = go (eqb (length t) tableSize && eqb (length p) 64) refl
-    where
-      go : (b : Bool) → (eqb (length t) tableSize && eqb (length p) 64) ≡ b → tickCall t p .result % 256 ≡ 6 → ⊥
-      go true e h = absurd (omega (arith, h, tick-accepted t p e s))
-      go false e h = absurd (omega (arith, rw (tick-size t p e) at h))
-
-  never-six : (k : Call) → after urqolina t k .result % 256 ≡ 6 → ⊥
-  unfolding after
-  never-six (command line reply) = command-six line reply
-  never-six (reading c n) = reading-six c n
-  never-six (tick p) = tick-six p
+never-six : (t : List ℕ) (k : Call) → soundTable t ≡ true → after urqolina t k .result % 256 ≡ 6 → ⊥
+never-six t k s = go (sizesRight t k) refl
+  where
+    go : (b : Bool) → sizesRight t k ≡ b → after urqolina t k .result % 256 ≡ 6 → ⊥
+    go true e h = absurd (omega (arith, h, taken-number t k s e))
+    go false e h = absurd (omega (arith, rw (numbers .sizes t k e) at h))
 
 -- Soundness lasts.
 pub lasting : Lasting urqolina
-lasting = record { sound = ran-sound; neverSix = λ b e ks k. never-six (ran urqolina b ks) (ran-sound b e ks) k }
+lasting = record { sound = ran-sound; neverSix = λ b e ks k. never-six (ran urqolina b ks) k (ran-sound b e ks) }

@@ -8,7 +8,7 @@ use native.Mathlib.Omega.{arith}
 use lib.ListN.{length}
 use lib.Dec.{eqb}
 use borrow.Author.Tests.{leb-true, ne-eqb, eqb-true, not-false}
-use Rattle.digits.specs.Places.{moved, ahead, countOf}
+use Rattle.digits.specs.Places.{moved, ahead, countOf, cw}
 use Rattle.record.specs.declared.Motor.{Motor}
 use Rattle.record.specs.Record.{freshMotor}
 use Rattle.record.specs.Computing.{computing-record}
@@ -17,9 +17,10 @@ use Rattle.motor.specs.Sound.{aimRight, driving, soundMotor}
 use Rattle.motor.proofs.SoundLaws.{sound-driving, sound-bounds}
 use Rattle.motor.proofs.RoomLaws.{moved-ahead, room-moved}
 use Rattle.drive.specs.declared.Ticked.{Ticked}
-use Rattle.drive.specs.Drives.{lsend, started, endedWith, contacted, switchRead, speedChanged}
+use Rattle.drive.specs.Drives.{lsend, started, endedWith, stopped, contacted, switchRead, speedChanged}
 use Rattle.drive.specs.Ticks.{toTarget, distanceLeft, given, advanced, tickMotor, tickCount}
-use Rattle.drive.proofs.Laws.{stopped-given-none}
+use Rattle.drive.proofs.Laws.{stopped-given-none, stopped-none}
+use Rattle.drive.proofs.KeptSound.{pulses-bound}
 use Rattle.drive.proofs.TickLaws.{Way, rests, arrives, ends, goes, way, reached-all, room-all}
 use Rattle.line.specs.declared.Start.{Start}
 use Rattle.orders.specs.Settings.{courseOf, withSetting}
@@ -30,13 +31,13 @@ use Rattle.table.proofs.TableLaws.{sound-motor-at}
 use Rattle.laws.specs.Sequences.{urqolina, Call, after, run, ran}
 use Rattle.laws.specs.Deeds as D
 use Rattle.laws.specs.Deeds.{Deed, deed}
-use Rattle.laws.specs.Ledger.{countAt, cwPulses, ccwPulses, Account, noDrive, setsOff, booked, closed, entered, account, Travel, noTravel, moving, travel}
+use Rattle.laws.specs.Ledger.{countAt, against, wayOf, cwPulses, ccwPulses, Account, noDrive, setsOff, booked, closed, entered, account, Travel, noTravel, moving, travel}
 use Rattle.laws.specs.Demands.{Demand3, Ends, byStop, bySwitch, byTarget, byRoom}
 use Rattle.laws.proofs.PartLaws.{fresh-motor}
 use Rattle.laws.proofs.DeedLaws.{performed, Fits, fits-start, fits-stop, fits-speed, fits-set, fits-read, fits-tick, fits-rest}
 use Rattle.laws.proofs.Following.{Follows, next}
 use Rattle.laws.proofs.AccountLaws.{Leaves, leaves, off-leaves, Balanced, set-drive, performed-balanced}
-use Rattle.laws.proofs.TravelLaws.{tick-counted, count-read, tick-count, Kept, performed-kept}
+use Rattle.laws.proofs.TravelLaws.{counted, tick-counted, count-read, tick-count, Kept, performed-kept}
 use Rattle.laws.proofs.LastingLaws.{made-fresh, run-sound, ran-sound}
 
 -- After each call the account of channel c is balanced, and its way kept.
@@ -73,52 +74,80 @@ module _ (c : ℕ) (on : c ≤ 15) where
   unfolding freshMotor
   fresh-balanced =
       rw (fresh-motor c on)
-      (record { lasting = refl; speed = λ d. absurd (false≢true d); exact = λ d. absurd (false≢true d); most = omega arith })
+      (record { lasting = refl; going = λ d. absurd (false≢true d); speed = λ d. absurd (false≢true d); exact = λ d. absurd (false≢true d); most = omega arith })
 
   fresh-kept : Kept (motorAt freshTable c) noTravel
   unfolding freshMotor
   fresh-kept = rw (fresh-motor c on) refl
 
--- A drive that a switch reading ends has an active enabled switch ahead.
-read-ends : (m : Motor) (n : ℕ) → driving m ≡ true → driving (switchRead m n) ≡ false → blocked (m .drive .going) (switchRead m n) ≡ true
-unfolding switchRead blocked
-read-ends m n d h = go (driving m) refl (blocked (m .drive .going) (contacted m n)) refl h
-  where
-    after : Bool → Motor
-    after t = cond t (endedWith lsend (contacted m n)) (contacted m n)
+-- A switch reading ends a drive, with LSEND, where the switch of its direction is active and enabled after it, and only there.
+module _ (m : Motor) (n : ℕ) where
+  read-ways : (P : Bool → Motor → Type 0) → (driving m ≡ true → P true (endedWith lsend (contacted m n))) → (driving m ≡ true → P false (contacted m n))
+      → ((b : Bool) → driving m ≡ false → P b (contacted m n)) → P (blocked (m .drive .going) (contacted m n)) (switchRead m n)
+  unfolding switchRead
+  read-ways P ended on still = go (driving m) refl (blocked (m .drive .going) (contacted m n))
+    where
+      go : (t : Bool) → driving m ≡ t → (u : Bool) → P u (cond (t && u) (endedWith lsend (contacted m n)) (contacted m n))
+      go true e true = ended e
+      go true e false = on e
+      go false e u = still u e
 
-    go : (t : Bool) → driving m ≡ t → (u : Bool) → blocked (m .drive .going) (contacted m n) ≡ u → driving (after (t && u)) ≡ false
-        → blocked (m .drive .going) (after (t && u)) ≡ true
-    go true e true f h = f
-    go true e false f h = absurd (false≢true (sym h ∙ d))
-    go false e u f h = absurd (false≢true (sym e ∙ d))
+  -- what a reading leaves, by whether the switch is in the way
+  abbrev Read : Bool → Motor → Type 0
+  Read t u = (driving m ≡ true → driving u ≡ false → (t ≡ true) × (u .ended ≡ lsend)) × (t ≡ true → driving u ≡ false)
 
--- A drive that a tick ends is at its target, or has used its room up.
+  read-so : Read (blocked (m .drive .going) (switchRead m n)) (switchRead m n)
+  unfolding blocked
+  read-so =
+      rw same
+      (read-ways Read (λ d. (λ e h. (refl, refl), λ e. refl)) (λ d. (λ e h. absurd (false≢true (sym h ∙ d)), λ e. absurd (false≢true e))) (λ b d. (λ e h. absurd (false≢true (sym d ∙ e)), λ e. d)))
+    where
+      same : blocked (m .drive .going) (switchRead m n) ≡ blocked (m .drive .going) (contacted m n)
+      same = read-ways (λ t u. blocked (m .drive .going) u ≡ blocked (m .drive .going) (contacted m n)) (λ d. refl) (λ d. refl) (λ t d. refl)
+
+-- A drive that a tick ends is at its target, with flags 0, or has used its room up, with LSEND.
 tick-ends : (m : Motor) → soundMotor m ≡ true → driving m ≡ true → driving (tickMotor m .motor) ≡ false
-    → ((toTarget m ≡ true) × (tickMotor m .motor .place ≡ m .drive .target)) ⊎ (room (m .drive .going) (tickMotor m .motor) ≡ 0)
+    → ((toTarget m ≡ true) × (tickMotor m .motor .place ≡ m .drive .target) × (tickMotor m .motor .ended ≡ 0))
+    ⊎ ((room (m .drive .going) (tickMotor m .motor) ≡ 0) × (tickMotor m .motor .ended ≡ lsend))
 unfolding room edge distanceLeft aimRight
 tick-ends m s d = go (way m)
   where
     g : ℕ
     g = m .drive .going
 
-    go : {t : Ticked} → Way m t → driving (t .motor) ≡ false → ((toTarget m ≡ true) × (t .motor .place ≡ m .drive .target)) ⊎ (room g (t .motor) ≡ 0)
+    go : {t : Ticked} → Way m t → driving (t .motor) ≡ false
+        → ((toTarget m ≡ true) × (t .motor .place ≡ m .drive .target) × (t .motor .ended ≡ 0)) ⊎ ((room g (t .motor) ≡ 0) × (t .motor .ended ≡ lsend))
     go (rests e) h = absurd (false≢true (sym e ∙ d))
     go (arrives e r) h =
         let t = reached-all m r in
         let far = leb-true 1 (ahead g (m .place) (m .drive .target)) (rw (t .0) at (sound-driving m s d .aim)) in
-        inl (t .0, rw (t .1) (moved-ahead g (m .place) (m .drive .target) far))
-    go (ends e r u) h = inr (omega (arith, room-moved g m (given m), room-all m u))
+        inl (t .0, rw (t .1) (moved-ahead g (m .place) (m .drive .target) far), refl)
+    go (ends e r u) h = inr (omega (arith, room-moved g m (given m), room-all m u), refl)
     go (goes e r u) h = absurd (false≢true (sym h ∙ e))
 
 -- An accepted start that sets off drives.
-leaves-driving : (m n : Motor) → Leaves m n → driving n ≡ true
-leaves-driving m _ (leaves going kind target h) = rw (ne-eqb going 0 (omega arith))
+leaves-driving : (m n : Motor) (going : ℕ) → Leaves m going n → driving n ≡ true
+leaves-driving m _ going (leaves kind target h) = rw (ne-eqb going 0 (omega arith))
 
 -- A stopped motor's count is 0.
 stopped-count : (m : Motor) → driving m ≡ false → tickCount m ≡ 0
 unfolding tickCount countOf
 stopped-count m d = rw (stopped-given-none m d, eqb-true (m .drive .going) 0 (not-false _ d))
+
+-- The count of a drive has no pulse against it.
+one-way : (m : Motor) → soundMotor m ≡ true → against (m .drive .going) (tickCount m) ≡ 0
+unfolding tickCount
+one-way m s =
+    let n = counted (m .drive .going) (tickMotor m .pulses) (pulses-bound m s) in
+    rw (n .0, n .1) (go (eqb (m .drive .going) cw))
+  where
+    go : (b : Bool) → cond b (cond b 0 (tickMotor m .pulses)) (cond b (tickMotor m .pulses) 0) ≡ 0
+    go true = refl
+    go false = refl
+
+-- A stop leaves nothing driving, and its end flags where something drove.
+stop-so : (m : Motor) (flags : ℕ) → soundMotor m ≡ true → (driving (stopped flags m) ≡ false) × (driving m ≡ true → stopped flags m .ended ≡ flags)
+stop-so m flags s = (rw (stopped-none flags m s), λ d. unfold stopped in rw d)
 
 -- Demand 3, after the calls ks.
 module _ (b : List ℕ) (whole : length b ≡ tableSize) (c : ℕ) (on : c ≤ 15) (ks : List Call) where
@@ -131,20 +160,34 @@ module _ (b : List ℕ) (whole : length b ≡ tableSize) (c : ℕ) (on : c ≤ 1
   abbrev m : Motor
   m = motorAt t c
 
+  o : soundMotor m ≡ true
+  o = sound-motor-at t c s on
+
   balanced : Balanced m (account urqolina c (urqolina .fresh b .table) noDrive ks)
   balanced = rw (made-fresh b whole) (run-balanced c on freshTable ks noDrive fresh-sound (fresh-balanced c on))
 
   kept : Kept m (travel urqolina c (urqolina .fresh b .table) noTravel ks)
   kept = rw (made-fresh b whole) (run-kept c on freshTable ks noTravel fresh-sound (fresh-kept c on))
 
+  -- what is known of the motor after a call that is the deed d
+  followed : (k : Call) (d : Deed) → deed c t k ≡ d → Follows t (after urqolina t k .table) c d
+  followed k d e = rw e at (next t k s .follows c on)
+
   starting : (k : Call) (st : Start) → deed c t k ≡ D.starts st → setsOff m st ≡ true → driving (motorAt (after urqolina t k .table) c) ≡ true
-  starting k st e off =
-      let f : Follows t (after urqolina t k .table) c (D.starts st) = rw e at (next t k s .follows c on) in
-      rw (f .motor) (go (f .fits))
+  unfolding performed
+  starting k st e off = let f = followed k (D.starts st) e in rw (f .motor) (go (f .fits))
     where
-      go : Fits m (D.starts st) → driving (performed m (D.starts st)) ≡ true
-      go (fits-start _ still h w r) =
-          unfold performed in leaves-driving m (started m (courseOf m st)) (off-leaves m st (sound-motor-at t c s on) h w off)
+      go : Fits m (D.starts st) → driving (started m (courseOf m st)) ≡ true
+      go (fits-start _ still h w r) = leaves-driving m (started m (courseOf m st)) (wayOf m st) (off-leaves m st o h r off)
+
+  stopping : (k : Call) (flags : ℕ) → deed c t k ≡ D.stops flags → driving (motorAt (after urqolina t k .table) c) ≡ false
+  unfolding performed
+  stopping k flags e = rw (followed k (D.stops flags) e .motor) (stop-so m flags o .0)
+
+  switching : (k : Call) (n : ℕ) → deed c t k ≡ D.reads n → blocked (m .drive .going) (motorAt (after urqolina t k .table) c) ≡ true
+      → driving (motorAt (after urqolina t k .table) c) ≡ false
+  unfolding performed
+  switching k n e = rw (followed k (D.reads n) e .motor) (read-so m n .1)
 
   ending : (k : Call) → driving m ≡ true → driving (motorAt (after urqolina t k .table) c) ≡ false → Ends urqolina b c ks k
   unfolding performed speedChanged
@@ -155,22 +198,26 @@ module _ (b : List ℕ) (whole : length b ≡ tableSize) (c : ℕ) (on : c ≤ 1
 
       go : (e : Deed) → deed c t k ≡ e → u ≡ performed m e → Fits m e → Ends urqolina b c ks k
       go (D.starts st) e q (fits-start _ still j w r) = absurd (false≢true (sym still ∙ d))
-      go (D.stops flags) e q f = byStop flags e
+      go (D.stops flags) e q f = byStop flags e (rw q (stop-so m flags o .1 d))
       go (D.speeds v) e q f = absurd (false≢true (sym (rw q at h) ∙ d))
       go (D.sets st) e q (fits-set _ still j w) = absurd (false≢true (sym still ∙ d))
-      go (D.reads n) e q f = bySwitch n e (rw q (read-ends m n d (rw q at h)))
+      go (D.reads n) e q f = let r = read-so m n .0 d (rw q at h) in bySwitch n e (rw q (r .0)) (rw q (r .1))
       go D.ticks e q f =
-          ⊎-elim (λ r. byTarget e (r .0) (rw q (r .1))) (λ r. byRoom e (rw q r)) (tick-ends m (sound-motor-at t c s on) d (rw q at h))
+          ⊎-elim (λ r. byTarget e (r .0) (rw q (r .1)) (rw q (r .2))) (λ r. byRoom e (rw q (r .0)) (rw q (r .1))) (tick-ends m o d (rw q at h))
       go D.rests e q f = absurd (false≢true (sym (rw q at h) ∙ d))
 
   pub demand-3 : Demand3 urqolina b c ks
   demand-3 =
       record {
         neverMore = balanced .most;
-        neverLess = λ e. omega (arith, balanced .exact (sym (balanced .lasting) ∙ e), sound-bounds m (sound-motor-at t c s on) .fraction);
+        neverLess = λ e. omega (arith, balanced .exact (sym (balanced .lasting) ∙ e), sound-bounds m o .fraction);
         starting = starting;
         lasting = balanced .lasting;
+        speed = λ e. balanced .speed (sym (balanced .lasting) ∙ e);
+        oneWay = λ e p long. rw (balanced .going (sym (balanced .lasting) ∙ e), count-read t p c s long on) (one-way m o);
         ending = ending;
-        none = λ d p e. rw (count-read t p c s e on) (stopped-count m d);
+        stopping = stopping;
+        switching = switching;
+        none = λ d p long. rw (count-read t p c s long on) (stopped-count m d);
         position = kept;
       }

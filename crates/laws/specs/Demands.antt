@@ -15,7 +15,7 @@ use Rattle.motor.specs.Sound.{driving}
 use Rattle.drive.specs.declared.Course.{Course}
 use Rattle.drive.specs.declared.Course.the-variants.{To}
 use Rattle.drive.specs.Numbers.{numberOf}
-use Rattle.drive.specs.Drives.{selectedSpeed, towards}
+use Rattle.drive.specs.Drives.{lsend, selectedSpeed, towards}
 use Rattle.drive.specs.Ticks.{roundedUp, toTarget}
 use Rattle.line.specs.declared.Start.{Start}
 use Rattle.line.specs.declared.Setting.{Setting}
@@ -33,7 +33,7 @@ use Rattle.table.specs.Sound.{soundTable}
 use Rattle.commands.specs.Judging.{judge}
 use Rattle.laws.specs.Sequences.{Library, Call, command, reading, tick, After, after, run, ran, never}
 use Rattle.laws.specs.Deeds.{Deed, starts, stops, speeds, sets, reads, ticks, rests, orderTaken, names, deedOf, deed, ticksIn}
-use Rattle.laws.specs.Ledger.{countAt, Account, noDrive, setsOff, account, Travel, noTravel, travel}
+use Rattle.laws.specs.Ledger.{countAt, against, Account, noDrive, setsOff, account, Travel, noTravel, travel}
 use Rattle.laws.specs.ReadBack.{questionFor, textFor, changes, changesMode, changesReply}
 
 -- "the table is sound" after any sequence, "so 6 never comes"
@@ -57,14 +57,17 @@ module _ (l : Library) (b : List ℕ) (c : ℕ) (ks : List Call) where
   abbrev pub travelNow : Travel
   travelNow = travel l c (l .fresh b .table) noTravel ks
 
-  -- why a drive ends with a call k: a stop; a switch reading after which "the switch of its direction is now active and enabled";
-  -- or a tick that reaches the target or uses the room up
+  -- the motor after one call more
+  abbrev pub motorNext : Call → Motor
+  motorNext k = motorAt (after l tableNow k .table) c
+
+  -- why a drive ends with a call k, and with which end flags: a stop; a switch reading after which "the switch of its direction is
+  -- now active and enabled"; a tick that reaches the target; or one that uses the room up
   pub data Ends (k : Call) : Type 0 where
-    byStop : (flags : ℕ) → deed c tableNow k ≡ stops flags → Ends k
-    bySwitch : (n : ℕ) → deed c tableNow k ≡ reads n → blocked (motorNow .drive .going) (motorAt (after l tableNow k .table) c) ≡ true → Ends k
-    byTarget :
-        deed c tableNow k ≡ ticks → toTarget motorNow ≡ true → motorAt (after l tableNow k .table) c .place ≡ motorNow .drive .target → Ends k
-    byRoom : deed c tableNow k ≡ ticks → room (motorNow .drive .going) (motorAt (after l tableNow k .table) c) ≡ 0 → Ends k
+    byStop : (flags : ℕ) → deed c tableNow k ≡ stops flags → motorNext k .ended ≡ flags → Ends k
+    bySwitch : (n : ℕ) → deed c tableNow k ≡ reads n → blocked (motorNow .drive .going) (motorNext k) ≡ true → motorNext k .ended ≡ lsend → Ends k
+    byTarget : deed c tableNow k ≡ ticks → toTarget motorNow ≡ true → motorNext k .place ≡ motorNow .drive .target → motorNext k .ended ≡ 0 → Ends k
+    byRoom : deed c tableNow k ≡ ticks → room (motorNow .drive .going) (motorNext k) ≡ 0 → motorNext k .ended ≡ lsend → Ends k
 
   pub record Demand3 : Type 0 where
     -- "A thousand times the pulses given never exceeds that sum"
@@ -72,10 +75,16 @@ module _ (l : Library) (b : List ℕ) (c : ℕ) (ks : List Call) where
     -- "and while the drive lasts the sum is less than a thousand above it"
     pub neverLess : accountNow .lasts ≡ true → accountNow .sum < 1000 * accountNow .pulses + 1000
     -- "each drive that demand 2 starts": an accepted start drives, and nothing drives but such a drive
-    pub starting : (k : Call) (s : Start) → deed c tableNow k ≡ starts s → setsOff motorNow s ≡ true → driving (motorAt (after l tableNow k .table) c) ≡ true
+    pub starting : (k : Call) (s : Start) → deed c tableNow k ≡ starts s → setsOff motorNow s ≡ true → driving (motorNext k) ≡ true
     pub lasting : accountNow .lasts ≡ driving motorNow
-    -- and it lasts until something ends it
-    pub ending : (k : Call) → driving motorNow ≡ true → driving (motorAt (after l tableNow k .table) c) ≡ false → Ends k
+    -- "the speeds in force": the account's speed is the one that the table holds
+    pub speed : accountNow .lasts ≡ true → accountNow .speed ≡ motorNow .drive .speed
+    -- "CW positive": the pulses of a drive go its way
+    pub oneWay : accountNow .lasts ≡ true → (p : List ℕ) → length p ≡ 64 → against (accountNow .going) (countAt (l .tick tableNow p .pulses) c) ≡ 0
+    -- a drive lasts until something ends it, and a stop or an active switch does: "A stop ends the drive at once"
+    pub ending : (k : Call) → driving motorNow ≡ true → driving (motorNext k) ≡ false → Ends k
+    pub stopping : (k : Call) (flags : ℕ) → deed c tableNow k ≡ stops flags → driving (motorNext k) ≡ false
+    pub switching : (k : Call) (n : ℕ) → deed c tableNow k ≡ reads n → blocked (motorNow .drive .going) (motorNext k) ≡ true → driving (motorNext k) ≡ false
     -- "A motor that stands stopped when the tick comes gets none."
     pub none : driving motorNow ≡ false → (p : List ℕ) → length p ≡ 64 → countAt (l .tick tableNow p .pulses) c ≡ 0
     -- "Each channel's position is its last accepted preset, or zero, plus the CW pulses given since, less the CCW pulses."

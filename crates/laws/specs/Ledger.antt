@@ -6,15 +6,15 @@ use mathlib.Core.Bool.{Bool, true, false, _&&_, not, cond}
 use lib.Dec.{eqb, ltb}
 use Rattle.digits.specs.Bytes.{part}
 use Rattle.digits.specs.Words.{word}
-use Rattle.digits.specs.Places.{origin}
+use Rattle.digits.specs.Places.{origin, cw}
 use Rattle.record.specs.declared.Motor.{Motor}
 use Rattle.motor.specs.Sound.{driving}
-use Rattle.drive.specs.Drives.{selectedSpeed}
+use Rattle.drive.specs.Drives.{selectedSpeed, towards}
 use Rattle.line.specs.declared.Start.{Start}
 use Rattle.line.specs.declared.Start.the-variants.{Abs, Rel, Scan, Jog}
 use Rattle.line.specs.declared.Setting.{Setting}
 use Rattle.line.specs.declared.Setting.the-variants.{Preset, SetCwLimit, SetCcwLimit, Select, SetSpeed, SetSwitches, SetMotor}
-use Rattle.orders.specs.Settings.{placeWritten}
+use Rattle.orders.specs.Settings.{directionOf, placeWritten}
 use Rattle.table.specs.Layout.{motorAt}
 use Rattle.laws.specs.Sequences.{Library, Call, after}
 use Rattle.laws.specs.Deeds.{Deed, starts, stops, speeds, sets, reads, ticks, rests, deed}
@@ -30,10 +30,16 @@ cwPulses n = cond (ltb n 2147483648) n 0
 unfoldable pub ccwPulses : ℕ → ℕ
 ccwPulses n = cond (ltb n 2147483648) 0 (4294967296 - n)
 
+-- the pulses of a count that go against a direction
+abbrev pub against : ℕ → ℕ → ℕ
+against going n = cond (eqb going cw) (ccwPulses n) (cwPulses n)
+
 -- the last drive of a channel, as far as it has come
 pub record Account : Type 0 where
   -- it lasts
   pub lasts : Bool
+  -- its direction, 1 CW, 2 CCW
+  pub going : ℕ
   -- its speed in force
   pub speed : ℕ
   -- S: "the speeds in force at its accepted ticks", added up
@@ -43,7 +49,7 @@ pub record Account : Type 0 where
 
 -- no drive yet
 abbrev pub noDrive : Account
-noDrive = record { lasts = false; speed = 0; sum = 0; pulses = 0 }
+noDrive = record { lasts = false; going = 0; speed = 0; sum = 0; pulses = 0 }
 
 -- an accepted start is a drive, but for "ABS to the present position, REL 0"
 unfoldable pub setsOff : Motor → Start → Bool
@@ -52,21 +58,29 @@ setsOff m (Rel w) = not (eqb (w .digits) 0)
 setsOff m (Scan going) = true
 setsOff m (Jog going) = true
 
+-- the direction that a start asks for: "P is CW", ABS goes towards the place that it names, and REL by its sign
+unfoldable pub wayOf : Motor → Start → ℕ
+wayOf m (Abs w) = towards m (placeWritten w)
+wayOf m (Rel w) = directionOf w
+wayOf m (Scan going) = going
+wayOf m (Jog going) = going
+
 -- what a deed on the motor m is to its account, with the pulses n of the channel's count: "A start takes the selected speed",
 -- "SPC replaces the speed in force", and a tick of a drive adds its speed and its pulses
 unfoldable pub booked : Motor → ℕ → Account → Deed → Account
-booked m n a (starts s) = cond (setsOff m s) (record { lasts = true; speed = selectedSpeed m; sum = 0; pulses = 0 }) a
+booked m n a (starts s) =
+    cond (setsOff m s) (record { lasts = true; going = wayOf m s; speed = selectedSpeed m; sum = 0; pulses = 0 }) a
 booked m n a (stops flags) = a
-booked m n a (speeds v) = record { lasts = a .lasts; speed = v; sum = a .sum; pulses = a .pulses }
+booked m n a (speeds v) = record { lasts = a .lasts; going = a .going; speed = v; sum = a .sum; pulses = a .pulses }
 booked m n a (sets s) = a
 booked m n a (reads contacts) = a
 booked m n a ticks =
-    cond (a .lasts) (record { lasts = true; speed = a .speed; sum = a .sum + a .speed; pulses = a .pulses + n }) a
+    cond (a .lasts) (record { lasts = true; going = a .going; speed = a .speed; sum = a .sum + a .speed; pulses = a .pulses + n }) a
 booked m n a rests = a
 
 -- a drive ends where the channel stands stopped after a call
 abbrev pub closed : Motor → Account → Account
-closed m a = record { lasts = a .lasts && driving m; speed = a .speed; sum = a .sum; pulses = a .pulses }
+closed m a = record { lasts = a .lasts && driving m; going = a .going; speed = a .speed; sum = a .sum; pulses = a .pulses }
 
 -- the account after one call on a table
 unfoldable pub entered : Library → ℕ → List ℕ → Account → Call → Account
