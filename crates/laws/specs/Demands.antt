@@ -1,11 +1,11 @@
 -- The demands, as statements of a library of the four calls.
 use mathlib.Core.Path.{_≡_}
 use mathlib.Core.List.{List, []}
-use mathlib.Core.Bool.{Bool, true, false, cond}
+use mathlib.Core.Bool.{Bool, true, false, _&&_, cond}
 use Prim.Native.Nat.{ℕ, _+_, _*_, _-_, _%_, _≤_, _<_}
 use lib.ListN.{length, getD}
-use lib.Dec.{eqb}
-use Rattle.digits.specs.Bytes.{AllBytes, put}
+use lib.Dec.{eqb, leb}
+use Rattle.digits.specs.Bytes.{AllBytes, part, put}
 use Rattle.digits.specs.Words.{withBit}
 use Rattle.digits.specs.Places.{ahead}
 use Rattle.text.specs.Text.{bytes}
@@ -14,6 +14,7 @@ use Rattle.motor.specs.Switches.{room, blocked}
 use Rattle.motor.specs.Sound.{driving}
 use Rattle.drive.specs.declared.Course.{Course}
 use Rattle.drive.specs.declared.Course.the-variants.{To}
+use Rattle.drive.specs.Numbers.{numberOf}
 use Rattle.drive.specs.Drives.{selectedSpeed, towards}
 use Rattle.drive.specs.Ticks.{roundedUp, toTarget}
 use Rattle.line.specs.declared.Start.{Start}
@@ -21,14 +22,15 @@ use Rattle.line.specs.declared.Setting.{Setting}
 use Rattle.line.specs.declared.Question.the-variants.{AskStatus}
 use Rattle.line.specs.declared.HeadQuestion.the-variants.{AskAllReply}
 use Rattle.line.specs.declared.Order.{Order}
-use Rattle.line.specs.declared.Order.the-variants.{Go, StopAll, Set, Ask, Mode, AllReply, AskHead}
+use Rattle.line.specs.declared.Order.the-variants.{Go, Stop, StopAll, ChangeSpeed, Set, Ask, Mode, AllReply, AskHead, ClearErrors, ClearError}
 use Rattle.line.specs.declared.Parsed.{Parsed}
 use Rattle.line.specs.declared.Parsed.the-variants.{Is, Nothing}
 use Rattle.line.specs.Forms.{orderOf}
 use Rattle.orders.specs.Settings.{courseOf}
 use Rattle.replies.specs.Replies.{modeLetter, headText}
-use Rattle.table.specs.Layout.{tableSize, errors, withErrors, recordAt, motorAt}
+use Rattle.table.specs.Layout.{tableSize, errors, withErrors, recordAt, motorAt, freshTable}
 use Rattle.table.specs.Sound.{soundTable}
+use Rattle.commands.specs.Judging.{judge}
 use Rattle.laws.specs.Sequences.{Library, Call, command, reading, tick, After, after, run, ran, never}
 use Rattle.laws.specs.Deeds.{Deed, starts, stops, speeds, sets, reads, ticks, rests, orderTaken, names, deedOf, deed, ticksIn}
 use Rattle.laws.specs.Ledger.{countAt, Account, noDrive, setsOff, account, Travel, noTravel, travel}
@@ -114,7 +116,7 @@ module _ (l : Library) (b : List ℕ) (c : ℕ) (ks : List Call) (k : Call) (p :
 
 -- Demand 2, the settings: what was accepted is what the read command answers, in the exact bytes of the reply, after any calls
 -- that do not change it. k is the accepted setting, `later` the calls after it, `line` the read command.
-module _ (l : Library) (b : List ℕ) (ks : List Call) (k : Call) (later : List Call) (line reply : List ℕ) where
+module _ (l : Library) (b : List ℕ) (ks : List Call) (k : Call) (later : List Call) (line reply : List ℕ) (enough : 32 ≤ length reply) where
   abbrev pub tableSet : List ℕ
   tableSet = after l (ran l b ks) k .table
 
@@ -132,7 +134,27 @@ module _ (l : Library) (b : List ℕ) (ks : List Call) (k : Call) (later : List 
     pub mode : (n x : ℕ) → orderTaken (ran l b ks) k ≡ Is (Mode n) → never l changesMode tableSet later ≡ true
         → orderOf line ≡ Is (Ask x AskStatus) → getD (after l (run l tableSet later) (command line reply) .buffer) 0 0 ≡ modeLetter n
 
--- Demand 2, the records that a call leaves, on any table whatever it holds
+-- an order of the head: LOC, REM, ALL_REP EN and DS, ERRC and ERRCe
+unfoldable pub ofHead : Order → Bool
+ofHead (Go x s) = false
+ofHead (Stop x flags) = false
+ofHead (StopAll flags) = false
+ofHead (ChangeSpeed x v) = false
+ofHead (Set x s) = false
+ofHead (Ask x q) = false
+ofHead (Mode k) = true
+ofHead (AllReply k) = true
+ofHead (AskHead q) = false
+ofHead ClearErrors = true
+ofHead (ClearError e) = true
+
+-- a command: none of the other calls touches the head
+abbrev pub isCommand : Call → Bool
+isCommand (command line reply) = true
+isCommand (reading c n) = false
+isCommand (tick p) = false
+
+-- Demand 2, what a call leaves byte for byte, on any table whatever it holds
 pub record Neighbours (l : Library) : Type 0 where
   -- "A command naming channel x leaves the other fifteen records byte for byte"
   pub others : (t line reply : List ℕ) (o : Order) (x d : ℕ) → orderOf line ≡ Is o → names x o ≡ true → (d ≡ x → ⊥)
@@ -140,11 +162,17 @@ pub record Neighbours (l : Library) : Type 0 where
   -- "here only ASSTP and AESTP, which name none, reach several": a line that is nothing to a channel leaves its record
   pub unreached : (t line reply : List ℕ) (o : Order) (d : ℕ) → orderOf line ≡ Is o → deedOf d o ≡ rests
       → recordAt (l .command t line reply .table) d ≡ recordAt t d
-  -- they leave a record that stands stopped; the table is bytes, as memory is
-  pub stopped : (t line reply : List ℕ) (flags d : ℕ) → AllBytes t → d ≤ 15 → orderOf line ≡ Is (StopAll flags) → driving (motorAt t d) ≡ false
-      → recordAt (l .command t line reply .table) d ≡ recordAt t d
+  -- ASSTP, AESTP, and "a stop on a stopped motor", leave a record that stands stopped; the table is bytes, as memory is
+  pub stopped : (t line reply : List ℕ) (o : Order) (flags d : ℕ) → AllBytes t → d ≤ 15 → orderOf line ≡ Is o → deedOf d o ≡ stops flags
+      → driving (motorAt t d) ≡ false → recordAt (l .command t line reply .table) d ≡ recordAt t d
+  -- a tick leaves such a record too
+  pub unticked : (t p : List ℕ) (d : ℕ) → AllBytes t → d ≤ 15 → driving (motorAt t d) ≡ false → recordAt (l .tick t p .table) d ≡ recordAt t d
   -- a switch reading leaves every record but its channel's
   pub readings : (t : List ℕ) (c n d : ℕ) → (d ≡ c → ⊥) → recordAt (l .reading t c n .table) d ≡ recordAt t d
+  -- an accepted order that is not of the head leaves the head, and so do readings and ticks
+  pub head : (t line reply : List ℕ) (o : Order) → orderOf line ≡ Is o → ofHead o ≡ false → l .command t line reply .result % 256 ≡ 0
+      → part (l .command t line reply .table) 0 64 ≡ part t 0 64
+  pub headLeft : (t : List ℕ) (k : Call) → isCommand k ≡ false → part (after l t k .table) 0 64 ≡ part t 0 64
 
 -- the buffer that a call is lent
 abbrev pub lent : Call → List ℕ
@@ -152,18 +180,33 @@ lent (command line reply) = reply
 lent (reading c n) = []
 lent (tick p) = p
 
+-- "5 | table not 1,088 bytes, reply buffer under 32, pulse buffer not 64, channel over 15, contacts over 7": none of these
+abbrev pub sizesRight : List ℕ → Call → Bool
+sizesRight t (command line reply) = eqb (length t) tableSize && leb 32 (length reply)
+sizesRight t (reading c n) = eqb (length t) tableSize && leb c 15 && leb n 7
+sizesRight t (tick p) = eqb (length t) tableSize && eqb (length p) 64
+
 -- Demands 1 and 2, the numbers, on any table whatever it holds. "The command's result is the number plus 256 times the reply
 -- length"; a reading's and a tick's is the number.
 pub record Numbers (l : Library) : Type 0 where
-  -- "No number is given otherwise."
-  pub known : (t : List ℕ) (k : Call) → after l t k .result % 256 ≤ 6
-  -- the rules decide: on a sound table 0 comes where they accept the line, and nowhere else
-  pub accepts : (t line reply : List ℕ) (o : Order) → soundTable t ≡ true → orderTaken t (command line reply) ≡ Is o → l .command t line reply .result % 256 ≡ 0
-  pub refuses : (t line reply : List ℕ) → soundTable t ≡ true → orderTaken t (command line reply) ≡ Nothing → l .command t line reply .result % 256 ≡ 0 → ⊥
+  -- "fresh gives only 0 or 5"
+  pub freshMade : (b : List ℕ) → length b ≡ tableSize → l .fresh b ≡ record { result = 0; table = freshTable }
+  pub freshRefused : (b : List ℕ) → (length b ≡ tableSize → ⊥) → l .fresh b ≡ record { result = 5; table = b }
+  -- "Order: 5, 6, ..": they come first, and "change nothing anywhere". "A refused tick (5 or 6) .. gives no pulse".
+  pub sizes : (t : List ℕ) (k : Call) → sizesRight t k ≡ false → after l t k ≡ record { result = 5; table = t; buffer = lent k }
+  pub unsound : (t : List ℕ) (k : Call) → sizesRight t k ≡ true → soundTable t ≡ false → after l t k ≡ record { result = 6; table = t; buffer = lent k }
+  -- "1, local mode, value, busy, target out of range .., the other causes of 4": what the rules judge
+  pub formless : (t line reply : List ℕ) → sizesRight t (command line reply) ≡ true → soundTable t ≡ true → orderOf line ≡ Nothing
+      → l .command t line reply .result % 256 ≡ 1
+  pub judged : (t line reply : List ℕ) (o : Order) → sizesRight t (command line reply) ≡ true → soundTable t ≡ true → orderOf line ≡ Is o
+      → l .command t line reply .result % 256 ≡ numberOf (judge t o)
+  -- a reading and a tick have nothing more to refuse
+  pub done : (t : List ℕ) (k : Call) → isCommand k ≡ false → sizesRight t k ≡ true → soundTable t ≡ true → after l t k .result ≡ 0
   -- "Numbers 1 to 4 set error flag bits 0 to 3 in turn and change nothing else in the table"
   pub flags : (t line reply : List ℕ) (n : ℕ) → 1 ≤ n → n ≤ 4 → l .command t line reply .result % 256 ≡ n
       → l .command t line reply .table ≡ withErrors t (withBit (n - 1) (errors t))
-  -- "5 and 6 change nothing anywhere", and no reply is counted
+  -- "5 and 6 change nothing anywhere", whenever they come, and no reply is counted
   pub nothing : (t : List ℕ) (k : Call) (n : ℕ) → 5 ≤ n → after l t k .result % 256 ≡ n → after l t k ≡ record { result = n; table = t; buffer = lent k }
-  -- "A refused tick (5 or 6) is no tick of any drive: it gives no pulse": a pulse buffer of another size
-  pub ticks : (t p : List ℕ) → (length p ≡ 64 → ⊥) → after l t (tick p) ≡ record { result = 5; table = t; buffer = p }
+  -- the orders that `Deeds` takes for accepted are those that get 0
+  pub accepts : (t line reply : List ℕ) (o : Order) → soundTable t ≡ true → orderTaken t (command line reply) ≡ Is o → l .command t line reply .result % 256 ≡ 0
+  pub refuses : (t line reply : List ℕ) → soundTable t ≡ true → orderTaken t (command line reply) ≡ Nothing → l .command t line reply .result % 256 ≡ 0 → ⊥
