@@ -124,7 +124,7 @@ module _ (t : List ℕ) (x : ℕ) where
       fits-set s (p .free) (p .value) (and-r (onBench x) (settingMade s) h)
 
 -- A channel that an order names is on the bench.
-bench-channel : (x : ℕ) (b : Bool) → (onBench x && b) ≡ true → x ≤ 15
+pub bench-channel : (x : ℕ) (b : Bool) → (onBench x && b) ≡ true → x ≤ 15
 bench-channel x b h = leb-true x 15 (and-l (onBench x) b h)
 
 -- what a call does to channel c: the table u after it holds what the deed makes of the motor, and the deed fits it

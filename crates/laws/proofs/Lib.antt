@@ -4,3 +4,4 @@ pub mod Following
 pub mod AccountLaws
 pub mod TravelLaws
 pub mod SettingLaws
+pub mod ReadBackLaws

@@ -1,10 +1,10 @@
 -- What a motor tells of a setting: the text that was written, from the setting on until a deed changes it. Assumes nothing.
 use mathlib.Core.Path.{_≡_, refl, sym, _∙_}
-use mathlib.Core.List.{List, _++_}
+use mathlib.Core.List.{_++_}
 use mathlib.Core.Bool.{Bool, true, false, _&&_, not, cond, false≢true}
 use Prim.Native.Nat.{ℕ, zero, suc, _+_, _*_, _/_, _%_, _≤_}
 use native.Mathlib.Omega.{arith}
-use lib.Dec.{eqb, leb}
+use lib.Dec.{eqb}
 use borrow.Author.Tests.{ne-eqb, eqb-true, eqb-false, leb-true, not-false}
 use Rattle.record.specs.declared.Speeds.{Speeds}
 use Rattle.record.specs.declared.Motor.{Motor}
@@ -15,7 +15,7 @@ use Rattle.drive.specs.declared.Course.{Course}
 use Rattle.drive.specs.declared.Course.the-variants.{Stay, Beyond, To, Along}
 use Rattle.drive.specs.Drives.{lsend, speedNumbered, started, endedWith, stopped, speedChanged, contacted, switchRead}
 use Rattle.drive.specs.Ticks.{tickMotor, tickCount}
-use Rattle.drive.proofs.TickLaws.{SameSettings, settings-stay}
+use Rattle.drive.proofs.TickLaws.{settings-stay}
 use Rattle.line.specs.declared.Four.{Four}
 use Rattle.line.specs.declared.Setting.{Setting}
 use Rattle.line.specs.declared.Setting.the-variants.{Preset, SetCwLimit, SetCcwLimit, Select, SetSpeed, SetSwitches, SetMotor}
