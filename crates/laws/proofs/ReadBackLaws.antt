@@ -1,0 +1,296 @@
+-- Demand 2, the settings: over any sequence of calls, what was accepted is what the read command answers. Assumes nothing.
+use mathlib.Core.Path.{_≡_, refl, sym}
+use mathlib.Core.List.{List, [], _∷_, append-nil, flatMap}
+use mathlib.Core.Bool.{Bool, true, false, not, cond}
+use Prim.Native.Nat.{ℕ, _*_, _-_, _≤_}
+use native.Mathlib.Nat.{zero-add}
+use native.Mathlib.Omega.{arith}
+use lib.ListN.{length, drop, getD, drop-of-length-le}
+use lib.Dec.{eqb, leb}
+use borrow.Author.Tests.{eq-eqb, eqb-true, eqb-false, le-leb, leb-true, not-true}
+use Rattle.digits.specs.Bytes.{part, put}
+use Rattle.digits.specs.Words.{word, withBit, withoutBit}
+use Rattle.text.specs.Text.{bytes}
+use Rattle.record.specs.declared.Motor.{Motor}
+use Rattle.record.specs.Record.{motorOf, recordOf}
+use Rattle.record.proofs.RoundTrip.{record-length}
+use Rattle.motor.proofs.SoundLaws.{and-l, and-r}
+use Rattle.drive.specs.declared.Verdict.{Verdict}
+use Rattle.drive.specs.declared.Verdict.the-variants.{Done, NoForm}
+use Rattle.drive.specs.Numbers.{numberOf}
+use Rattle.drive.specs.Drives.{started, stopped, speedChanged, switchRead}
+use Rattle.drive.specs.Ticks.{tickMotor}
+use Rattle.line.specs.declared.Setting.{Setting}
+use Rattle.line.specs.declared.Question.the-variants.{AskStatus}
+use Rattle.line.specs.declared.HeadQuestion.the-variants.{AskAllReply}
+use Rattle.line.specs.declared.Order.{Order}
+use Rattle.line.specs.declared.Order.the-variants.{Go, Stop, StopAll, ChangeSpeed, Set, Ask, Mode, AllReply, AskHead, ClearErrors, ClearError}
+use Rattle.line.specs.declared.Parsed.{Parsed}
+use Rattle.line.specs.declared.Parsed.the-variants.{Is, Nothing}
+use Rattle.line.specs.Forms.{orderOf}
+use Rattle.line.specs.Made.{onBench, startMade, endFlag, settingMade, orderMade, parsedMade}
+use Rattle.line.proofs.OrderLaws.{line-made}
+use Rattle.orders.specs.Values.{needsRemote, settingInRange, valueInRange}
+use Rattle.orders.specs.Settings.{courseOf, withSetting}
+use Rattle.replies.specs.Replies.{modeLetter, statusText, questionText, headText}
+use Rattle.table.specs.Layout.{tableSize, mode, allReply, errors, withErrors, records, motorAt, withMotor, withMotors}
+use Rattle.table.specs.Sound.{soundTable}
+use Rattle.table.proofs.TableLaws.{sound-length, sound-motor-at}
+use Rattle.table.proofs.PieceLaws.{flat-length, part-same, part-before, part-after}
+use Rattle.table.proofs.KeptLaws.{head-kept, fresh-sound}
+use Rattle.commands.specs.Judging.{busy, judgeMotor, judge}
+use Rattle.commands.specs.Changing.{changed, flagged}
+use Rattle.commands.specs.Answers.{answer}
+use Rattle.urqolina.specs.Calls.{refused, obeyed, taken, freshCall, commandCall, readingCall, tickCall}
+use Rattle.urqolina.proofs.Refusals.{fresh-made}
+use Rattle.laws.specs.Sequences.{urqolina, Call, command, reading, tick, after, run, ran, never}
+use Rattle.laws.specs.Deeds.{sets, orderPassed, orderTaken, deedOf, deed}
+use Rattle.laws.specs.Ledger.{countAt}
+use Rattle.laws.specs.ReadBack.{questionFor, textFor, changes, modeOrder, replyOrder, isSome}
+use Rattle.laws.specs.Demands.{ReadsBack}
+use Rattle.laws.proofs.DeedLaws.{Fits, fits-set, performed}
+use Rattle.laws.proofs.Following.{bench-channel, Follows, order-follows, next}
+use Rattle.laws.proofs.TravelLaws.{tick-count}
+use Rattle.laws.proofs.SettingLaws.{Tells, set-tells, performed-tells}
+
+-- A sequence of calls leaves a sound table, from a fresh one on.
+pub run-sound : (t : List ℕ) (ks : List Call) → soundTable t ≡ true → soundTable (run urqolina t ks) ≡ true
+unfolding run
+run-sound t [] s = s
+run-sound t (k ∷ ks) s = run-sound (after urqolina t k .table) ks (next t k s .sound)
+
+pub ran-sound : (b : List ℕ) (ks : List Call) → length b ≡ tableSize → soundTable (ran urqolina b ks) ≡ true
+ran-sound b ks e = run-sound (freshCall b .table) ks (rw (fresh-made b (eq-eqb (length b) tableSize e)) fresh-sound)
+
+-- What every call keeps that does not pass a test is kept over a sequence of such calls.
+run-keeps : (P : List ℕ → Type 0) (test : List ℕ → Call → Bool)
+    → ((t : List ℕ) (k : Call) → soundTable t ≡ true → test t k ≡ false → P t → P (after urqolina t k .table))
+    → (t : List ℕ) (ks : List Call) → soundTable t ≡ true → never urqolina test t ks ≡ true → P t → P (run urqolina t ks)
+unfolding run never
+run-keeps P test keeps t [] s h p = p
+run-keeps P test keeps t (k ∷ ks) s h p =
+    let u = after urqolina t k .table in
+    let first = not-true (test t k) (and-l (not (test t k)) (never urqolina test u ks) h) in
+    run-keeps P test keeps u ks (next t k s .sound) (and-r (not (test t k)) (never urqolina test u ks) h) (keeps t k s first p)
+
+-- A sound table passes the test of its size.
+right-size : (t : List ℕ) → soundTable t ≡ true → eqb (length t) tableSize ≡ true
+right-size t s = eq-eqb (length t) tableSize (sound-length t s)
+
+-- what a call does to the table, and the order that it takes
+data Outcome (t : List ℕ) : Parsed → List ℕ → Type 0 where
+  leaves : Outcome t Nothing t
+  refuses : (v : Verdict) → Outcome t Nothing (flagged t v)
+  obeys : (o : Order) → orderMade o ≡ true → numberOf (judge t o) ≡ 0 → Outcome t (Is o) (changed t o)
+  motor : (x : ℕ) (m : Motor) → x ≤ 15 → Outcome t Nothing (withMotor t x m)
+  motors : (f : Motor → Motor) → Outcome t Nothing (withMotors t f)
+
+-- Every call on a sound table has such an outcome: a line,
+taken-outcome : (t : List ℕ) (p : Parsed) (reply : List ℕ) → parsedMade p ≡ true → Outcome t (orderPassed t p) (taken t p reply .table)
+unfolding taken refused obeyed
+taken-outcome t Nothing reply h = refuses NoForm
+taken-outcome t (Is o) reply h = go (eqb (numberOf (judge t o)) 0) refl
+  where
+    go : (b : Bool) → eqb (numberOf (judge t o)) 0 ≡ b
+        → Outcome t (cond b (Is o) Nothing) (cond b (obeyed t o reply) (refused t (judge t o) reply) .table)
+    go true e = obeys o h (eqb-true (numberOf (judge t o)) 0 e)
+    go false e = refuses (judge t o)
+
+-- and each of the three calls.
+outcome : (t : List ℕ) (k : Call) → soundTable t ≡ true → Outcome t (orderTaken t k) (after urqolina t k .table)
+unfolding orderTaken after commandCall readingCall tickCall numberOf
+outcome t (command line reply) s = go (leb 32 (length reply)) refl
+  where
+    go : (b : Bool) → leb 32 (length reply) ≡ b → Outcome t (cond b (orderPassed t (orderOf line)) Nothing) (commandCall t line reply .table)
+    go true e = rw (right-size t s, e, s) (taken-outcome t (orderOf line) reply (line-made line))
+    go false e = rw (right-size t s, e) leaves
+outcome t (reading x n) s = go (leb x 15) refl (leb n 7) refl
+  where
+    go : (a : Bool) → leb x 15 ≡ a → (b : Bool) → leb n 7 ≡ b → Outcome t Nothing (readingCall t x n .table)
+    go true a true b = rw (right-size t s, a, b, s) (motor x (switchRead (motorAt t x) n) (leb-true x 15 a))
+    go true a false b = rw (right-size t s, a, b) leaves
+    go false a b eb = rw (right-size t s, a) leaves
+outcome t (tick p) s = go (eqb (length p) 64) refl
+  where
+    go : (b : Bool) → eqb (length p) 64 ≡ b → Outcome t Nothing (tickCall t p .table)
+    go true e = rw (right-size t s, e, s) (motors (λ m. tickMotor m .motor))
+    go false e = rw (right-size t s, e) leaves
+
+-- what is known of an order that a call takes
+record Takes (t u : List ℕ) (o : Order) : Type 0 where
+  made : orderMade o ≡ true
+  judged : numberOf (judge t o) ≡ 0
+  table : u ≡ changed t o
+
+-- Only a line that is obeyed takes an order.
+no-order : {A : Type 0} {o : Order} → Nothing ≡ Is o → A
+no-order e = let z : _≡_ {A = ℕ} 0 1 = cc in absurd (omega arith)
+
+takes : (t : List ℕ) (k : Call) (o : Order) → soundTable t ≡ true → orderTaken t k ≡ Is o → Takes t (after urqolina t k .table) o
+takes t k o s = go (outcome t k s)
+  where
+    go : {p : Parsed} {u : List ℕ} → Outcome t p u → p ≡ Is o → Takes t u o
+    go leaves e = no-order e
+    go (refuses v) e = no-order e
+    go (obeys q m j) e = record { made = cc; judged = cc; table = cc }
+    go (motor x m h) e = no-order e
+    go (motors f) e = no-order e
+
+-- An order that is accepted and changes nothing answers its text.
+asked : (t line reply : List ℕ) (o : Order) (text : List ℕ) → soundTable t ≡ true → 32 ≤ length reply → orderOf line ≡ Is o
+    → judge t o ≡ Done → changed t o ≡ t → answer t o ≡ text
+    → after urqolina t (command line reply) ≡ record { result = 256 * length text; table = t; buffer = put reply 0 text }
+unfolding after commandCall taken obeyed numberOf
+asked t line reply o text s h e j c a = rw (right-size t s, le-leb 32 (length reply) h, s, e, j, c, a, zero-add)
+
+-- The status begins with the mode's letter.
+status-letter : (reply : List ℕ) (n x : ℕ) (m : Motor) → getD (put reply 0 (questionText n x m AskStatus)) 0 0 ≡ modeLetter n
+unfolding put questionText statusText
+status-letter reply n x m = refl
+
+-- what an accepted setting leaves: its channel's motor tells it
+record Settled (u : List ℕ) (x : ℕ) (s : Setting) : Type 0 where
+  channel : x ≤ 15
+  made : settingMade s ≡ true
+  tells : Tells (motorAt u x) s
+
+-- A setting that fits is in its range.
+fits-range : (m : Motor) (s : Setting) → Fits m (sets s) → settingInRange s ≡ true
+fits-range m s (fits-set _ still h made) = h
+
+-- Every accepted setting leaves that,
+settles : (t : List ℕ) (k : Call) (x : ℕ) (s : Setting) → soundTable t ≡ true → orderTaken t k ≡ Is (Set x s)
+    → Settled (after urqolina t k .table) x s
+unfolding orderMade deedOf performed
+settles t k x s o e =
+    let w = takes t k (Set x s) o e in
+    let h = bench-channel x (settingMade s) (w .made) in
+    let made = and-r (onBench x) (settingMade s) (w .made) in
+    let f : Follows t (changed t (Set x s)) x (sets s) = rw (eq-eqb x x refl) at (order-follows t (Set x s) x o h (w .made) (w .judged)) in
+    record {
+      channel = h;
+      made = made;
+      tells = rw (w .table, f .motor) (set-tells (motorAt t x) s (fits-range (motorAt t x) s (f .fits)) made);
+    }
+
+-- and it is told as long as no call changes it.
+told-on : (u : List ℕ) (later : List Call) (x : ℕ) (s : Setting) → soundTable u ≡ true → never urqolina (changes urqolina x s) u later ≡ true
+    → Settled u x s → Tells (motorAt (run urqolina u later) x) s
+unfolding changes
+told-on u later x s o h w = run-keeps (λ t. Tells (motorAt t x) s) (changes urqolina x s) keeps u later o h (w .tells)
+  where
+    keeps : (t : List ℕ) (k : Call) → soundTable t ≡ true → changes urqolina x s t k ≡ false → Tells (motorAt t x) s
+        → Tells (motorAt (after urqolina t k .table) x) s
+    keeps t k o e told =
+        let count = tick-count t k x o (w .channel) in
+        rw (next t k o .follows x (w .channel) .motor)
+        (performed-tells (motorAt t x) (deed x t k) (countAt (after urqolina t k .buffer) x) s (sound-motor-at t x o (w .channel)) count (w .made) e told)
+
+-- whether an order writes byte i of the head: 0 is the mode, 1 all-reply
+abbrev writesByte : ℕ → Order → Bool
+writesByte i o = cond (eqb i 0) (modeOrder o) (replyOrder o)
+
+abbrev changesByte : ℕ → List ℕ → Call → Bool
+changesByte i t k = isSome (writesByte i) (orderTaken t k)
+
+-- An order of the first of the two bytes that leaves byte i, and one of the second: i is the other.
+first : (b : Bool) → cond b true false ≡ false → b ≡ false
+first true e = e
+first false e = refl
+
+second : (b : Bool) → cond b false true ≡ false → b ≡ true
+second true e = refl
+second false e = sym e
+
+-- Byte i is left by every call that takes no order to write it.
+module _ (t : List ℕ) (s : soundTable t ≡ true) (i : ℕ) (h : i ≤ 1) where
+  whole : length t ≡ tableSize
+  whole = sound-length t s
+
+  motor-byte : (x : ℕ) (m : Motor) → x ≤ 15 → part (withMotor t x m) i 1 ≡ part t i 1
+  motor-byte x m l = head-kept t x m whole l i 1 (omega arith)
+
+  motors-byte : (f : Motor → Motor) → part (withMotors t f) i 1 ≡ part t i 1
+  unfolding withMotors put
+  motors-byte f =
+      let e = whole in
+      let g : List ℕ → List ℕ = λ r. recordOf (f (motorOf r)) in
+      let all = flatMap g (records t) in
+      let size : length all ≡ 1024 = flat-length g 64 64 16 (drop 64 t) (λ r. record-length (f (motorOf r))) in
+      rw (size, drop-of-length-le t {i = 1088} (omega arith), append-nil) at (part-before t all 64 i 1 (omega arith) (omega arith))
+
+  errors-byte : (n : ℕ) → part (withErrors t n) i 1 ≡ part t i 1
+  errors-byte n = let e = whole in part-before t (n ∷ []) 2 i 1 (omega arith) (omega arith)
+
+  order-byte : (o : Order) → orderMade o ≡ true → writesByte i o ≡ false → part (changed t o) i 1 ≡ part t i 1
+  unfolding changed orderMade modeOrder replyOrder
+  order-byte (Go x r) m e = motor-byte x (started (motorAt t x) (courseOf (motorAt t x) r)) (bench-channel x (startMade r) m)
+  order-byte (Stop x flags) m e = motor-byte x (stopped flags (motorAt t x)) (bench-channel x (endFlag flags) m)
+  order-byte (StopAll flags) m e = motors-byte (stopped flags)
+  order-byte (ChangeSpeed x v) m e = motor-byte x (speedChanged (motorAt t x) v) (leb-true x 15 m)
+  order-byte (Set x r) m e = motor-byte x (withSetting (motorAt t x) r) (bench-channel x (settingMade r) m)
+  order-byte (Ask x q) m e = refl
+  order-byte (Mode n) m e = let z = whole in part-after t (n ∷ []) 0 i 1 (omega (arith, eqb-false i 0 (first (eqb i 0) e))) (omega arith)
+  order-byte (AllReply n) m e = let z = whole in part-before t (n ∷ []) 1 i 1 (omega (arith, eqb-true i 0 (second (eqb i 0) e))) (omega arith)
+  order-byte (AskHead q) m e = refl
+  order-byte ClearErrors m e = errors-byte 0
+  order-byte (ClearError n) m e = errors-byte (withoutBit n (errors t))
+
+  call-byte : (k : Call) → changesByte i t k ≡ false → part (after urqolina t k .table) i 1 ≡ part t i 1
+  call-byte k = go (outcome t k s)
+    where
+      go : {p : Parsed} {u : List ℕ} → Outcome t p u → isSome (writesByte i) p ≡ false → part u i 1 ≡ part t i 1
+      go leaves e = refl
+      go (refuses v) e = unfold flagged in errors-byte (withBit (numberOf v - 1) (errors t))
+      go (obeys o m j) e = order-byte o m e
+      go (motor x m l) e = motor-byte x m l
+      go (motors f) e = motors-byte f
+
+  -- A byte that is written is there.
+  byte-written : (n : ℕ) → word (part (put t i (n ∷ [])) i 1) ≡ n
+  unfolding word
+  byte-written n = let e = whole in rw (part-same t (n ∷ []) i 1 refl (omega arith)) (omega arith)
+
+-- So it stays over every sequence that takes no such order.
+byte-on : (u : List ℕ) (later : List Call) (i n : ℕ) → i ≤ 1 → soundTable u ≡ true → never urqolina (changesByte i) u later ≡ true
+    → word (part u i 1) ≡ n → word (part (run urqolina u later) i 1) ≡ n
+byte-on u later i n h o e w =
+    run-keeps (λ t. word (part t i 1) ≡ n) (changesByte i) (λ t k s c p. rw (call-byte t s i h k c) p) u later o e w
+
+-- The demand: what was set is answered, whatever came before, and whatever came since that did not change it.
+pub reads-back : (b : List ℕ) → length b ≡ tableSize → (ks : List Call) (k : Call) (later : List Call) (line reply : List ℕ) (enough : 32 ≤ length reply)
+    → ReadsBack urqolina b ks k later line reply enough
+unfolding judge needsRemote valueInRange busy judgeMotor changed answer headText
+reads-back b size ks k later line reply enough =
+    record {
+      setting = λ x s e h q.
+          read (Ask x (questionFor s)) (textFor s) q refl refl (told-on u later x s sound h (settles t k x s start e) (mode v) x);
+      allReply = λ n e h q.
+          read (AskHead AskAllReply) (cond (eqb n 1) (bytes "EN") (bytes "DS")) q refl refl (rw (byte 1 (AllReply n) n (omega arith) e refl h));
+      mode = λ n x e h q.
+          let m = motorAt v x in
+          rw (read (Ask x AskStatus) (questionText (mode v) x m AskStatus) q refl refl refl, status-letter reply (mode v) x m, byte 0 (Mode n) n (omega arith) e refl h);
+    }
+  where
+    t : List ℕ
+    t = ran urqolina b ks
+
+    u : List ℕ
+    u = after urqolina t k .table
+
+    v : List ℕ
+    v = run urqolina u later
+
+    start : soundTable t ≡ true
+    start = ran-sound b ks size
+
+    sound : soundTable u ≡ true
+    sound = next t k start .sound
+
+    read : (o : Order) (text : List ℕ) → orderOf line ≡ Is o → judge v o ≡ Done → changed v o ≡ v → answer v o ≡ text
+        → after urqolina v (command line reply) ≡ record { result = 256 * length text; table = v; buffer = put reply 0 text }
+    read o text q j c a = asked v line reply o text (run-sound u later sound) enough q j c a
+
+    byte : (i : ℕ) (o : Order) (n : ℕ) → i ≤ 1 → orderTaken t k ≡ Is o → changed t o ≡ put t i (n ∷ [])
+        → never urqolina (changesByte i) u later ≡ true → word (part v i 1) ≡ n
+    byte i o n h e c w = byte-on u later i n h sound w (rw (takes t k o start e .table, c) (byte-written t start i h n))
