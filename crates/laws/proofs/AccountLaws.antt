@@ -1,8 +1,8 @@
 -- The account of a channel's drives, deed by deed: what is booked from outside is what the motor holds. Assumes nothing.
 use mathlib.Core.Path.{_≡_, refl, sym, ap, subst, _∙_}
-use mathlib.Core.Bool.{Bool, true, false, _&&_, _||_, not, cond, false≢true, and-false, and-self}
+use mathlib.Core.Bool.{Bool, true, false, _&&_, _||_, cond, false≢true, and-false, and-self}
 use mathlib.Core.Logic.{_⊎_, inl, inr, ⊎-elim}
-use Prim.Native.Nat.{ℕ, _+_, _*_, _-_, _≤_, _<_}
+use Prim.Native.Nat.{ℕ, _+_, _*_, _-_, _≤_}
 use native.Mathlib.Omega.{arith}
 use lib.Dec.{eqb, ltb}
 use borrow.Author.Tests.{eqb-true, eqb-false, eq-eqb, ne-eqb, lt-ltb, le-ltb, not-true, not-false}
@@ -13,15 +13,13 @@ use Rattle.motor.specs.Switches.{blocked}
 use Rattle.motor.specs.Sound.{driving, soundMotor}
 use Rattle.motor.proofs.SoundLaws.{sound-bounds}
 use Rattle.motor.proofs.RoomLaws.{moved-none}
-use Rattle.drive.specs.declared.Course.{Course}
-use Rattle.drive.specs.declared.Course.the-variants.{Stay, Beyond, To, Along}
-use Rattle.drive.specs.declared.Verdict.the-variants.{Done, OutOfRange}
-use Rattle.drive.specs.Numbers.{numberOf}
+use Rattle.drive.specs.declared.Course.the-variants.{Beyond, To}
+use Rattle.drive.specs.declared.Verdict.the-variants.{Done}
 use Rattle.drive.specs.declared.Ticked.{Ticked}
-use Rattle.drive.specs.Drives.{lsend, selectedSpeed, courseTo, towards, judgeStart, wellAimed, launched, started, endedWith, stopped, speedChanged, contacted, switchRead}
+use Rattle.drive.specs.Drives.{lsend, selectedSpeed, courseTo, towards, judgeStart, launched, started, endedWith, stopped, speedChanged, contacted, switchRead}
 use Rattle.drive.specs.Ticks.{tickSpeed, tickMotor}
 use Rattle.drive.proofs.Laws.{stopped-given-none, stopped-stands, stopped-again}
-use Rattle.drive.proofs.TickLaws.{carried, never-early, drive-stays, drive-ends}
+use Rattle.drive.proofs.TickLaws.{carried, never-early, drive-stays}
 use Rattle.drive.proofs.KeptSound.{towards-ahead}
 use Rattle.line.specs.declared.Written.{Written}
 use Rattle.line.specs.declared.Start.{Start}
@@ -32,7 +30,7 @@ use Rattle.line.specs.Made.{direction, startMade}
 use Rattle.orders.specs.Settings.{directionOf, courseOf, withSetting}
 use Rattle.laws.specs.Deeds.{Deed, starts, stops, speeds, sets, reads, ticks, rests}
 use Rattle.laws.specs.Ledger.{Account, setsOff, wayOf, booked, closed}
-use Rattle.laws.proofs.DeedLaws.{performed, Fits, fits-start, fits-stop, fits-speed, fits-set, fits-read, fits-tick, fits-rest}
+use Rattle.laws.proofs.DeedLaws.{performed, Fits, fits-start, fits-speed}
 
 -- a motor that has just been started in a direction: it drives, at the selected speed, with fraction 0
 pub data Leaves (m : Motor) (going : ℕ) : Motor → Type 0 where

@@ -8,7 +8,6 @@ use lib.ListN.{length}
 use lib.Dec.{eqb, leb}
 use borrow.Author.Tests.{eq-eqb, eqb-true, eqb-false}
 use Rattle.drive.specs.declared.Verdict.{Verdict}
-use Rattle.drive.specs.declared.Verdict.the-variants.{NoForm}
 use Rattle.drive.specs.Numbers.{numberOf}
 use Rattle.drive.specs.Drives.{switchRead}
 use Rattle.drive.specs.Ticks.{tickMotor}
@@ -24,15 +23,10 @@ use Rattle.urqolina.specs.Calls.{refusal, accepted, TableAfter, CommandAfter, T
 use Rattle.urqolina.proofs.Refusals.{judge-number}
 use Rattle.urqolina.proofs.CallLaws.{sizes-channel}
 use Rattle.laws.specs.Sequences.{command}
-use Rattle.laws.specs.Deeds.{orderPassed, orderTaken}
-
--- the verdict on a line, on a sound table
-abbrev pub verdict : List ℕ → Parsed → Verdict
-verdict t (Is o) = judge t o
-verdict t Nothing = NoForm
+use Rattle.laws.specs.Deeds.{verdict, orderPassed, orderTaken}
 
 -- What holds of a line that is refused with a number from 1 to 4, and of one that is obeyed, holds of the line.
-taken-ways : (P : CommandAfter → Parsed → Type 0) (t reply : List ℕ) (p : Parsed)
+pub taken-ways : (P : CommandAfter → Parsed → Type 0) (t reply : List ℕ) (p : Parsed)
     → (1 ≤ numberOf (verdict t p) → numberOf (verdict t p) ≤ 4 → P (refused t (verdict t p) reply) Nothing)
     → ((o : Order) → p ≡ Is o → numberOf (judge t o) ≡ 0 → P (obeyed t o reply) (Is o))
     → P (taken t p reply) (orderPassed t p)

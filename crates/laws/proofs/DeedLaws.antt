@@ -1,15 +1,13 @@
 -- What a deed makes of a motor, and that a sound motor stays sound. Assumes nothing.
-use mathlib.Core.Path.{_≡_, refl, sym, _∙_}
-use mathlib.Core.Bool.{Bool, true, false, _&&_, not, cond, false≢true}
+use mathlib.Core.Path.{_≡_}
+use mathlib.Core.Bool.{Bool, true, false, _&&_, not, cond}
 use Prim.Native.Nat.{ℕ, _+_, _*_, _-_, _/_, _%_, _≤_}
 use native.Mathlib.Omega.{arith}
 use lib.Dec.{eqb, leb}
-use borrow.Author.Tests.{le-leb, leb-true, eqb-true, ne-eqb}
+use borrow.Author.Tests.{le-leb, eqb-true}
 use Rattle.digits.specs.Places.{origin, isPosition, moved, cw, ccw}
 use Rattle.digits.specs.Words.{isSet}
-use Rattle.record.specs.declared.Limits.{Limits}
 use Rattle.record.specs.declared.Speeds.{Speeds}
-use Rattle.record.specs.declared.Wiring.{Wiring}
 use Rattle.record.specs.declared.Motor.{Motor}
 use Rattle.motor.specs.Sound.{isSpeed, limitsInRange, speedsInRange, wiringInRange, endFlagsInRange, driving, soundMotor}
 use Rattle.motor.proofs.SoundLaws.{and-l, and-r, sound-parts, bounds-position}
@@ -24,7 +22,7 @@ use Rattle.line.specs.declared.Setting.{Setting}
 use Rattle.line.specs.declared.Setting.the-variants.{Preset, SetCwLimit, SetCcwLimit, Select, SetSpeed, SetSwitches, SetMotor}
 use Rattle.line.specs.Made.{startMade, settingMade}
 use Rattle.orders.specs.Values.{signedInRange, binaryDigits, setupWritten, settingInRange}
-use Rattle.orders.specs.Settings.{directionOf, placeWritten, courseOf, selecting, withSpeed, binary, withSetting}
+use Rattle.orders.specs.Settings.{placeWritten, courseOf, selecting, withSpeed, binary, withSetting}
 use Rattle.orders.proofs.ValueLaws.{signed-bound, Binary, binary-bound}
 use Rattle.laws.specs.Deeds.{Deed, starts, stops, speeds, sets, reads, ticks, rests}
 

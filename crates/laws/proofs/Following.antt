@@ -40,9 +40,9 @@ use Rattle.commands.specs.Changing.{changed, flagged}
 use Rattle.commands.proofs.ChannelLaws.{named, named-channel}
 use Rattle.urqolina.specs.Calls.{refused, obeyed, commandCall, readingCall, tickCall}
 use Rattle.laws.specs.Sequences.{urqolina, Call, command, reading, tick, after}
-use Rattle.laws.specs.Deeds.{Deed, starts, stops, speeds, sets, reads, ticks, rests, deedIf, deedOf, deedTaken, deed}
+use Rattle.laws.specs.Deeds.{verdict, Deed, starts, stops, speeds, sets, reads, ticks, rests, deedIf, deedOf, deedTaken, deed}
 use Rattle.laws.proofs.PartLaws.{motors-motor}
-use Rattle.laws.proofs.CallWays.{verdict, sound-ways}
+use Rattle.laws.proofs.CallWays.{sound-ways}
 use Rattle.laws.proofs.DeedLaws.{performed, Fits, fits-start, fits-stop, fits-speed, fits-set, fits-read, fits-tick, fits-rest, performed-sound}
 
 -- Only `Done` has the number 0.

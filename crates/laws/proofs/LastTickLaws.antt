@@ -1,37 +1,32 @@
 -- "A drive to a target at distance D and speed v, with no stop, SPC or switch reading on its channel and D within room, ends at
 -- tick D·1000/v rounded up", over sequences, with any other calls in between. Assumes nothing.
-use mathlib.Core.Path.{_≡_, refl, sym, ap, _∙_}
+use mathlib.Core.Path.{_≡_, refl, sym, _∙_}
 use mathlib.Core.List.{List, [], _∷_}
-use mathlib.Core.Bool.{Bool, true, false, _&&_, not, cond, false≢true}
-use Prim.Native.Nat.{ℕ, zero, suc, _+_, _*_, _-_, _≤_, _<_}
+use mathlib.Core.Bool.{Bool, true, false, _&&_, not, false≢true}
+use Prim.Native.Nat.{ℕ, _+_, _≤_, _<_}
 use native.Mathlib.Nat.{zero-add, add-zero}
 use native.Mathlib.Numerals.{add-one}
 use native.Mathlib.Omega.{arith}
 use lib.ListN.{length}
 use lib.Dec.{eqb, leb}
 use borrow.Author.Tests.{eq-eqb, not-true}
-use Rattle.digits.specs.Places.{ahead}
 use Rattle.record.specs.declared.Motor.{Motor}
 use Rattle.record.specs.Record.{withPlace}
-use Rattle.motor.specs.Switches.{room}
 use Rattle.motor.specs.Sound.{driving, soundMotor}
 use Rattle.motor.proofs.SoundLaws.{and-l, and-r}
-use Rattle.drive.specs.declared.Course.{Course}
 use Rattle.drive.specs.declared.Course.the-variants.{To}
 use Rattle.drive.specs.declared.Verdict.the-variants.{Done}
-use Rattle.drive.specs.Drives.{selectedSpeed, towards, judgeStart, wellAimed, started, endedWith}
-use Rattle.drive.specs.Ticks.{tickMotor, ticks, roundedUp}
+use Rattle.drive.specs.Drives.{judgeStart, wellAimed, started, endedWith}
+use Rattle.drive.specs.Ticks.{tickMotor, ticks}
 use Rattle.drive.proofs.LastTick.{ticks-none, ticks-more, started-drives-before, started-last-tick}
-use Rattle.line.specs.declared.Start.{Start}
-use Rattle.orders.specs.Settings.{courseOf}
 use Rattle.table.specs.Layout.{tableSize, motorAt}
 use Rattle.table.specs.Sound.{soundTable}
 use Rattle.table.proofs.TableLaws.{sound-motor-at}
 use Rattle.laws.specs.Sequences.{urqolina, Call, command, reading, tick, after, run, ran, never}
 use Rattle.laws.specs.Deeds as D
 use Rattle.laws.specs.Deeds.{Deed, deedIf, orderTaken, deed, oneMore, ticksIn}
-use Rattle.laws.specs.Demands.{disturbs, distance, lastTick, Undisturbed, LastTick}
-use Rattle.laws.proofs.DeedLaws.{performed, Fits, fits-start, fits-stop, fits-speed, fits-set, fits-read, fits-tick, fits-rest}
+use Rattle.laws.specs.Demands.{disturbs, lastTick, Undisturbed, LastTick}
+use Rattle.laws.proofs.DeedLaws.{performed, Fits, fits-start, fits-set}
 use Rattle.laws.proofs.Following.{Follows, next}
 use Rattle.laws.proofs.TravelLaws.{isTick, if-tick, taken-tick}
 use Rattle.laws.proofs.LastingLaws.{run-sound, ran-sound}

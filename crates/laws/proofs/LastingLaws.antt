@@ -1,16 +1,15 @@
 -- The table stays sound over any sequence of calls after a fresh one, so 6 never comes. Assumes nothing.
 use mathlib.Core.Path.{_≡_, refl, ap}
 use mathlib.Core.List.{List, [], _∷_}
-use mathlib.Core.Bool.{Bool, true, false, _&&_}
+use mathlib.Core.Bool.{Bool, true, false}
 use Prim.Native.Nat.{ℕ, _%_, _≤_}
 use native.Mathlib.Omega.{arith}
 use lib.ListN.{length}
-use lib.Dec.{eqb, leb}
 use borrow.Author.Tests.{eq-eqb}
 use Rattle.table.specs.Layout.{tableSize, freshTable}
 use Rattle.table.specs.Sound.{soundTable}
 use Rattle.table.proofs.KeptLaws.{fresh-sound}
-use Rattle.urqolina.specs.Calls.{TableAfter, freshCall, commandCall, readingCall, tickCall}
+use Rattle.urqolina.specs.Calls.{TableAfter, freshCall}
 use Rattle.urqolina.proofs.Refusals.{fresh-made, command-accepted, reading-accepted, tick-accepted}
 use Rattle.laws.specs.Sequences.{urqolina, Call, command, reading, tick, after, run, ran}
 use Rattle.laws.specs.Demands.{sizesRight, Lasting}

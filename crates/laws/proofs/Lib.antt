@@ -9,3 +9,6 @@ pub mod AccountLaws
 pub mod TravelLaws
 pub mod PulseLaws
 pub mod LastTickLaws
+pub mod SettingLaws
+pub mod ReadBackLaws
+pub mod AnswerLaws

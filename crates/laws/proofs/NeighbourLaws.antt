@@ -1,14 +1,13 @@
 -- The bytes that a call leaves as they were, for every table and all inputs. Assumes nothing.
 use mathlib.Core.Path.{_≡_, refl, sym, _∙_}
-use mathlib.Core.List.{List, flatMap}
+use mathlib.Core.List.{List, append-nil, flatMap}
 use mathlib.Core.Bool.{Bool, true, false, false≢true}
-use Prim.Native.Nat.{ℕ, _%_, _≤_}
+use Prim.Native.Nat.{ℕ, _+_, _%_, _≤_}
 use native.Mathlib.Omega.{arith}
-use lib.ListN.{take, length-take}
+use lib.ListN.{length, drop, drop-of-length-le}
 use lib.Dec.{eqb}
-use lib.Seq.{take-at}
 use borrow.Author.Tests.{ne-eqb, eqb-true, eqb-false}
-use Rattle.digits.specs.Bytes.{AllBytes, part}
+use Rattle.digits.specs.Bytes.{AllBytes, part, put}
 use Rattle.digits.specs.Words.{withoutBit}
 use Rattle.digits.proofs.PartLaws.{part-bytes}
 use Rattle.record.specs.declared.Motor.{Motor}
@@ -27,6 +26,8 @@ use Rattle.line.specs.Made.{orderMade}
 use Rattle.line.proofs.OrderLaws.{line-made}
 use Rattle.table.specs.Layout.{recordStart, recordAt, records, errors, motorAt, withMotor, withMotors}
 use Rattle.table.specs.Sound.{soundTable}
+use Rattle.record.proofs.RoundTrip.{record-length}
+use Rattle.table.proofs.PieceLaws.{flat-length, part-before}
 use Rattle.table.proofs.TableLaws.{sound-length, sound-record-at}
 use Rattle.table.proofs.KeptLaws.{written-record, head-kept, record-kept}
 use Rattle.commands.specs.Changing.{changed, flagged}
@@ -134,33 +135,37 @@ named-rests ClearErrors x d e ne = refl
 named-rests (ClearError n) x d e ne = refl
 
 -- Sixteen motors changed leave the head.
-motors-head : (t : List ℕ) (f : Motor → Motor) → soundTable t ≡ true → part (withMotors t f) 0 64 ≡ part t 0 64
-unfolding withMotors part
-motors-head t f s =
+pub motors-head : (t : List ℕ) (f : Motor → Motor) (i n : ℕ) → soundTable t ≡ true → i + n ≤ 64 → part (withMotors t f) i n ≡ part t i n
+unfolding withMotors put
+motors-head t f i n s h =
     let e = sound-length t s in
-    take-at (take 64 t) (flatMap (λ r. recordOf (f (motorOf r))) (records t)) 64 (rw length-take (omega arith))
+    let g : List ℕ → List ℕ = λ r. recordOf (f (motorOf r)) in
+    let all = flatMap g (records t) in
+    let size : length all ≡ 1024 = flat-length g 64 64 16 (drop 64 t) (λ r. record-length (f (motorOf r))) in
+    rw (size, drop-of-length-le t {i = 1088} (omega arith), append-nil) at (part-before t all 64 i n h (omega arith))
 
 -- An accepted order of a line that is not of the head leaves the head.
-changed-head : (t : List ℕ) (o : Order) → soundTable t ≡ true → orderMade o ≡ true → ofHead o ≡ false → part (changed t o) 0 64 ≡ part t 0 64
+pub changed-head : (t : List ℕ) (o : Order) (i n : ℕ) → soundTable t ≡ true → orderMade o ≡ true → ofHead o ≡ false → i + n ≤ 64
+    → part (changed t o) i n ≡ part t i n
 unfolding changed ofHead named
-changed-head t (Go x a) s made q = head-kept t x _ (sound-length t s) (named-channel (Go x a) made) 0 64 (omega arith)
-changed-head t (Stop x f) s made q = head-kept t x _ (sound-length t s) (named-channel (Stop x f) made) 0 64 (omega arith)
-changed-head t (StopAll f) s made q = motors-head t (stopped f) s
-changed-head t (ChangeSpeed x v) s made q = head-kept t x _ (sound-length t s) (named-channel (ChangeSpeed x v) made) 0 64 (omega arith)
-changed-head t (Set x a) s made q = head-kept t x _ (sound-length t s) (named-channel (Set x a) made) 0 64 (omega arith)
-changed-head t (Ask x a) s made q = refl
-changed-head t (Mode k) s made q = absurd (false≢true (sym q))
-changed-head t (AllReply k) s made q = absurd (false≢true (sym q))
-changed-head t (AskHead a) s made q = refl
-changed-head t ClearErrors s made q = absurd (false≢true (sym q))
-changed-head t (ClearError e) s made q = absurd (false≢true (sym q))
+changed-head t (Go x a) i n s made q h = head-kept t x _ (sound-length t s) (named-channel (Go x a) made) i n h
+changed-head t (Stop x f) i n s made q h = head-kept t x _ (sound-length t s) (named-channel (Stop x f) made) i n h
+changed-head t (StopAll f) i n s made q h = motors-head t (stopped f) i n s h
+changed-head t (ChangeSpeed x v) i n s made q h = head-kept t x _ (sound-length t s) (named-channel (ChangeSpeed x v) made) i n h
+changed-head t (Set x a) i n s made q h = head-kept t x _ (sound-length t s) (named-channel (Set x a) made) i n h
+changed-head t (Ask x a) i n s made q h = refl
+changed-head t (Mode k) i n s made q h = absurd (false≢true (sym q))
+changed-head t (AllReply k) i n s made q h = absurd (false≢true (sym q))
+changed-head t (AskHead a) i n s made q h = refl
+changed-head t ClearErrors i n s made q h = absurd (false≢true (sym q))
+changed-head t (ClearError e) i n s made q h = absurd (false≢true (sym q))
 
 head : (t line reply : List ℕ) (o : Order) → orderOf line ≡ Is o → ofHead o ≡ false → commandCall t line reply .result % 256 ≡ 0
     → part (commandCall t line reply .table) 0 64 ≡ part t 0 64
 unfolding obeyed
 head t line reply o e q =
     let made : orderMade o ≡ true = rw e at (line-made line) in
-    let same : soundTable t ≡ true → part (obeyedTable t (orderOf line)) 0 64 ≡ part t 0 64 = λ s. rw e (changed-head t o s made q) in
+    let same : soundTable t ≡ true → part (obeyedTable t (orderOf line)) 0 64 ≡ part t 0 64 = λ s. rw e (changed-head t o 0 64 s made q (omega arith)) in
     command-ways (λ a. a .result % 256 ≡ 0 → part (a .table) 0 64 ≡ part t 0 64) t line reply (λ n l h z. refl)
     (λ s v l h z. absurd (omega (arith, refused-number t v reply h, z))) (λ s p f z. rw f at (same s))
 
@@ -170,7 +175,7 @@ unfolding after
 head-left t (command line reply) q = absurd (false≢true (sym q))
 head-left t (reading c n) q =
     reading-ways (λ a. part (a .table) 0 64 ≡ part t 0 64) t c n (λ k l h. refl) (λ s h. head-kept t c _ (sound-length t s) h 0 64 (omega arith))
-head-left t (tick p) q = tick-ways (λ a. part (a .table) 0 64 ≡ part t 0 64) t p (λ n l h. refl) (motors-head t (λ m. tickMotor m .motor))
+head-left t (tick p) q = tick-ways (λ a. part (a .table) 0 64 ≡ part t 0 64) t p (λ n l h. refl) (λ s. motors-head t (λ m. tickMotor m .motor) 0 64 s (omega arith))
 
 -- The bytes that the demands ask to be left.
 pub neighbours : Neighbours urqolina

@@ -1,6 +1,6 @@
 -- One piece of a run of equal pieces: a record of a table whose sixteen motors were changed, and a count of a pulse buffer.
 -- Assumes nothing.
-use mathlib.Core.Path.{_≡_, refl, sym, _∙_}
+use mathlib.Core.Path.{_≡_, refl, _∙_}
 use mathlib.Core.List.{List, [], _++_, append-nil, flatMap}
 use mathlib.Core.Bool.{Bool, true, false}
 use Prim.Native.Nat.{ℕ, zero, suc, _+_, _*_, _≤_, _<_}

@@ -1,29 +1,28 @@
 -- Demand 3, for every channel and every sequence of calls after a fresh one. Assumes nothing.
-use mathlib.Core.Path.{_≡_, refl, sym, ap, _∙_}
+use mathlib.Core.Path.{_≡_, refl, sym, _∙_}
 use mathlib.Core.List.{List, [], _∷_}
 use mathlib.Core.Bool.{Bool, true, false, _&&_, cond, false≢true}
 use mathlib.Core.Logic.{_⊎_, inl, inr, ⊎-elim}
-use Prim.Native.Nat.{ℕ, _+_, _*_, _-_, _≤_, _<_}
+use Prim.Native.Nat.{ℕ, _≤_}
 use native.Mathlib.Omega.{arith}
 use lib.ListN.{length}
 use lib.Dec.{eqb}
 use borrow.Author.Tests.{leb-true, ne-eqb, eqb-true, not-false}
-use Rattle.digits.specs.Places.{moved, ahead, countOf, cw}
+use Rattle.digits.specs.Places.{ahead, countOf, cw}
 use Rattle.record.specs.declared.Motor.{Motor}
 use Rattle.record.specs.Record.{freshMotor}
-use Rattle.record.specs.Computing.{computing-record}
 use Rattle.motor.specs.Switches.{blocked, edge, room}
 use Rattle.motor.specs.Sound.{aimRight, driving, soundMotor}
 use Rattle.motor.proofs.SoundLaws.{sound-driving, sound-bounds}
 use Rattle.motor.proofs.RoomLaws.{moved-ahead, room-moved}
 use Rattle.drive.specs.declared.Ticked.{Ticked}
 use Rattle.drive.specs.Drives.{lsend, started, endedWith, stopped, contacted, switchRead, speedChanged}
-use Rattle.drive.specs.Ticks.{toTarget, distanceLeft, given, advanced, tickMotor, tickCount}
+use Rattle.drive.specs.Ticks.{toTarget, distanceLeft, given, tickMotor, tickCount}
 use Rattle.drive.proofs.Laws.{stopped-given-none, stopped-none}
 use Rattle.drive.proofs.KeptSound.{pulses-bound}
 use Rattle.drive.proofs.TickLaws.{Way, rests, arrives, ends, goes, way, reached-all, room-all}
 use Rattle.line.specs.declared.Start.{Start}
-use Rattle.orders.specs.Settings.{courseOf, withSetting}
+use Rattle.orders.specs.Settings.{courseOf}
 use Rattle.table.specs.Layout.{tableSize, motorAt, freshTable}
 use Rattle.table.specs.Sound.{soundTable}
 use Rattle.table.proofs.KeptLaws.{fresh-sound}
@@ -31,14 +30,14 @@ use Rattle.table.proofs.TableLaws.{sound-motor-at}
 use Rattle.laws.specs.Sequences.{urqolina, Call, after, run, ran}
 use Rattle.laws.specs.Deeds as D
 use Rattle.laws.specs.Deeds.{Deed, deed}
-use Rattle.laws.specs.Ledger.{countAt, against, wayOf, cwPulses, ccwPulses, Account, noDrive, setsOff, booked, closed, entered, account, Travel, noTravel, moving, travel}
+use Rattle.laws.specs.Ledger.{countAt, against, wayOf, Account, noDrive, setsOff, entered, account, Travel, noTravel, moving, travel}
 use Rattle.laws.specs.Demands.{Demand3, Ends, byStop, bySwitch, byTarget, byRoom}
 use Rattle.laws.proofs.PartLaws.{fresh-motor}
-use Rattle.laws.proofs.DeedLaws.{performed, Fits, fits-start, fits-stop, fits-speed, fits-set, fits-read, fits-tick, fits-rest}
+use Rattle.laws.proofs.DeedLaws.{performed, Fits, fits-start, fits-set}
 use Rattle.laws.proofs.Following.{Follows, next}
-use Rattle.laws.proofs.AccountLaws.{Leaves, leaves, off-leaves, Balanced, set-drive, performed-balanced}
+use Rattle.laws.proofs.AccountLaws.{Leaves, leaves, off-leaves, Balanced, performed-balanced}
 use Rattle.laws.proofs.TravelLaws.{counted, tick-counted, count-read, tick-count, Kept, performed-kept}
-use Rattle.laws.proofs.LastingLaws.{made-fresh, run-sound, ran-sound}
+use Rattle.laws.proofs.LastingLaws.{made-fresh, ran-sound}
 
 -- After each call the account of channel c is balanced, and its way kept.
 module _ (c : ℕ) (on : c ≤ 15) where

@@ -1,24 +1,22 @@
 -- Demand 2, the settings: over any sequence of calls, what was accepted is what the read command answers. Assumes nothing.
 use mathlib.Core.Path.{_≡_, refl, sym}
-use mathlib.Core.List.{List, [], _∷_, append-nil, flatMap}
-use mathlib.Core.Bool.{Bool, true, false, not, cond}
+use mathlib.Core.List.{List, [], _∷_}
+use mathlib.Core.Bool.{Bool, true, false, not, cond, false≢true}
 use Prim.Native.Nat.{ℕ, _*_, _-_, _≤_}
 use native.Mathlib.Nat.{zero-add}
 use native.Mathlib.Omega.{arith}
-use lib.ListN.{length, drop, getD, drop-of-length-le}
-use lib.Dec.{eqb, leb}
-use borrow.Author.Tests.{eq-eqb, eqb-true, eqb-false, le-leb, leb-true, not-true}
+use lib.ListN.{length, getD}
+use lib.Dec.{eqb}
+use borrow.Author.Tests.{eq-eqb, eqb-true, eqb-false, le-leb, not-true}
 use Rattle.digits.specs.Bytes.{part, put}
 use Rattle.digits.specs.Words.{word, withBit, withoutBit}
 use Rattle.text.specs.Text.{bytes}
 use Rattle.record.specs.declared.Motor.{Motor}
-use Rattle.record.specs.Record.{motorOf, recordOf}
-use Rattle.record.proofs.RoundTrip.{record-length}
 use Rattle.motor.proofs.SoundLaws.{and-l, and-r}
 use Rattle.drive.specs.declared.Verdict.{Verdict}
-use Rattle.drive.specs.declared.Verdict.the-variants.{Done, NoForm}
+use Rattle.drive.specs.declared.Verdict.the-variants.{Done}
 use Rattle.drive.specs.Numbers.{numberOf}
-use Rattle.drive.specs.Drives.{started, stopped, speedChanged, switchRead}
+use Rattle.drive.specs.Drives.{switchRead}
 use Rattle.drive.specs.Ticks.{tickMotor}
 use Rattle.line.specs.declared.Setting.{Setting}
 use Rattle.line.specs.declared.Question.the-variants.{AskStatus}
@@ -28,39 +26,32 @@ use Rattle.line.specs.declared.Order.the-variants.{Go, Stop, StopAll, ChangeSpe
 use Rattle.line.specs.declared.Parsed.{Parsed}
 use Rattle.line.specs.declared.Parsed.the-variants.{Is, Nothing}
 use Rattle.line.specs.Forms.{orderOf}
-use Rattle.line.specs.Made.{onBench, startMade, endFlag, settingMade, orderMade, parsedMade}
+use Rattle.line.specs.Made.{onBench, settingMade, orderMade}
 use Rattle.line.proofs.OrderLaws.{line-made}
 use Rattle.orders.specs.Values.{needsRemote, settingInRange, valueInRange}
-use Rattle.orders.specs.Settings.{courseOf, withSetting}
 use Rattle.replies.specs.Replies.{modeLetter, statusText, questionText, headText}
-use Rattle.table.specs.Layout.{tableSize, mode, allReply, errors, withErrors, records, motorAt, withMotor, withMotors}
+use Rattle.table.specs.Layout.{tableSize, mode, allReply, errors, withErrors, motorAt, withMotor, withMotors}
 use Rattle.table.specs.Sound.{soundTable}
 use Rattle.table.proofs.TableLaws.{sound-length, sound-motor-at}
-use Rattle.table.proofs.PieceLaws.{flat-length, part-same, part-before, part-after}
-use Rattle.table.proofs.KeptLaws.{head-kept, fresh-sound}
+use Rattle.table.proofs.PieceLaws.{part-same, part-before, part-after}
+use Rattle.table.proofs.KeptLaws.{head-kept}
 use Rattle.commands.specs.Judging.{busy, judgeMotor, judge}
 use Rattle.commands.specs.Changing.{changed, flagged}
+use Rattle.commands.proofs.ChannelLaws.{named, named-channel}
 use Rattle.commands.specs.Answers.{answer}
-use Rattle.urqolina.specs.Calls.{refused, obeyed, taken, freshCall, commandCall, readingCall, tickCall}
-use Rattle.urqolina.proofs.Refusals.{fresh-made}
+use Rattle.urqolina.specs.Calls.{refused, obeyed, taken, commandCall}
 use Rattle.laws.specs.Sequences.{urqolina, Call, command, reading, tick, after, run, ran, never}
-use Rattle.laws.specs.Deeds.{sets, orderPassed, orderTaken, deedOf, deed}
+use Rattle.laws.specs.Deeds.{verdict, sets, orderTaken, deedOf, deed}
 use Rattle.laws.specs.Ledger.{countAt}
 use Rattle.laws.specs.ReadBack.{questionFor, textFor, changes, modeOrder, replyOrder, isSome}
-use Rattle.laws.specs.Demands.{ReadsBack}
+use Rattle.laws.specs.Demands.{ofHead, ReadsBack}
 use Rattle.laws.proofs.DeedLaws.{Fits, fits-set, performed}
-use Rattle.laws.proofs.Following.{bench-channel, Follows, order-follows, next}
+use Rattle.laws.proofs.Following.{Follows, order-follows, next}
+use Rattle.laws.proofs.CallWays.{sound-ways, reading-ways, tick-ways}
+use Rattle.laws.proofs.NeighbourLaws.{motors-head, changed-head}
+use Rattle.laws.proofs.LastingLaws.{run-sound, ran-sound}
 use Rattle.laws.proofs.TravelLaws.{tick-count}
 use Rattle.laws.proofs.SettingLaws.{Tells, set-tells, performed-tells}
-
--- A sequence of calls leaves a sound table, from a fresh one on.
-pub run-sound : (t : List ℕ) (ks : List Call) → soundTable t ≡ true → soundTable (run urqolina t ks) ≡ true
-unfolding run
-run-sound t [] s = s
-run-sound t (k ∷ ks) s = run-sound (after urqolina t k .table) ks (next t k s .sound)
-
-pub ran-sound : (b : List ℕ) (ks : List Call) → length b ≡ tableSize → soundTable (ran urqolina b ks) ≡ true
-ran-sound b ks e = run-sound (freshCall b .table) ks (rw (fresh-made b (eq-eqb (length b) tableSize e)) fresh-sound)
 
 -- What every call keeps that does not pass a test is kept over a sequence of such calls.
 run-keeps : (P : List ℕ → Type 0) (test : List ℕ → Call → Bool)
@@ -74,7 +65,7 @@ run-keeps P test keeps t (k ∷ ks) s h p =
     run-keeps P test keeps u ks (next t k s .sound) (and-r (not (test t k)) (never urqolina test u ks) h) (keeps t k s first p)
 
 -- A sound table passes the test of its size.
-right-size : (t : List ℕ) → soundTable t ≡ true → eqb (length t) tableSize ≡ true
+pub right-size : (t : List ℕ) → soundTable t ≡ true → eqb (length t) tableSize ≡ true
 right-size t s = eq-eqb (length t) tableSize (sound-length t s)
 
 -- what a call does to the table, and the order that it takes
@@ -85,36 +76,13 @@ data Outcome (t : List ℕ) : Parsed → List ℕ → Type 0 where
   motor : (x : ℕ) (m : Motor) → x ≤ 15 → Outcome t Nothing (withMotor t x m)
   motors : (f : Motor → Motor) → Outcome t Nothing (withMotors t f)
 
--- Every call on a sound table has such an outcome: a line,
-taken-outcome : (t : List ℕ) (p : Parsed) (reply : List ℕ) → parsedMade p ≡ true → Outcome t (orderPassed t p) (taken t p reply .table)
-unfolding taken refused obeyed
-taken-outcome t Nothing reply h = refuses NoForm
-taken-outcome t (Is o) reply h = go (eqb (numberOf (judge t o)) 0) refl
-  where
-    go : (b : Bool) → eqb (numberOf (judge t o)) 0 ≡ b
-        → Outcome t (cond b (Is o) Nothing) (cond b (obeyed t o reply) (refused t (judge t o) reply) .table)
-    go true e = obeys o h (eqb-true (numberOf (judge t o)) 0 e)
-    go false e = refuses (judge t o)
-
--- and each of the three calls.
+-- Every call on a sound table has such an outcome.
 outcome : (t : List ℕ) (k : Call) → soundTable t ≡ true → Outcome t (orderTaken t k) (after urqolina t k .table)
-unfolding orderTaken after commandCall readingCall tickCall numberOf
-outcome t (command line reply) s = go (leb 32 (length reply)) refl
-  where
-    go : (b : Bool) → leb 32 (length reply) ≡ b → Outcome t (cond b (orderPassed t (orderOf line)) Nothing) (commandCall t line reply .table)
-    go true e = rw (right-size t s, e, s) (taken-outcome t (orderOf line) reply (line-made line))
-    go false e = rw (right-size t s, e) leaves
-outcome t (reading x n) s = go (leb x 15) refl (leb n 7) refl
-  where
-    go : (a : Bool) → leb x 15 ≡ a → (b : Bool) → leb n 7 ≡ b → Outcome t Nothing (readingCall t x n .table)
-    go true a true b = rw (right-size t s, a, b, s) (motor x (switchRead (motorAt t x) n) (leb-true x 15 a))
-    go true a false b = rw (right-size t s, a, b) leaves
-    go false a b eb = rw (right-size t s, a) leaves
-outcome t (tick p) s = go (eqb (length p) 64) refl
-  where
-    go : (b : Bool) → eqb (length p) 64 ≡ b → Outcome t Nothing (tickCall t p .table)
-    go true e = rw (right-size t s, e, s) (motors (λ m. tickMotor m .motor))
-    go false e = rw (right-size t s, e) leaves
+unfolding orderTaken after refused obeyed
+outcome t (command line reply) s =
+    sound-ways (λ a p. Outcome t p (a .table)) t line reply s leaves (λ l h. refuses (verdict t (orderOf line))) (λ o e z. obeys o (rw e at (line-made line)) z)
+outcome t (reading x n) s = reading-ways (λ a. Outcome t Nothing (a .table)) t x n (λ k l h. leaves) (λ o h. motor x (switchRead (motorAt t x) n) h)
+outcome t (tick p) s = tick-ways (λ a. Outcome t Nothing (a .table)) t p (λ k l h. leaves) (λ o. motors (λ m. tickMotor m .motor))
 
 -- what is known of an order that a call takes
 record Takes (t u : List ℕ) (o : Order) : Type 0 where
@@ -137,7 +105,7 @@ takes t k o s = go (outcome t k s)
     go (motors f) e = no-order e
 
 -- An order that is accepted and changes nothing answers its text.
-asked : (t line reply : List ℕ) (o : Order) (text : List ℕ) → soundTable t ≡ true → 32 ≤ length reply → orderOf line ≡ Is o
+pub asked : (t line reply : List ℕ) (o : Order) (text : List ℕ) → soundTable t ≡ true → 32 ≤ length reply → orderOf line ≡ Is o
     → judge t o ≡ Done → changed t o ≡ t → answer t o ≡ text
     → after urqolina t (command line reply) ≡ record { result = 256 * length text; table = t; buffer = put reply 0 text }
 unfolding after commandCall taken obeyed numberOf
@@ -164,7 +132,7 @@ settles : (t : List ℕ) (k : Call) (x : ℕ) (s : Setting) → soundTable t ≡
 unfolding orderMade deedOf performed
 settles t k x s o e =
     let w = takes t k (Set x s) o e in
-    let h = bench-channel x (settingMade s) (w .made) in
+    let h : x ≤ 15 = unfold named in named-channel (Set x s) (w .made) in
     let made = and-r (onBench x) (settingMade s) (w .made) in
     let f : Follows t (changed t (Set x s)) x (sets s) = rw (eq-eqb x x refl) at (order-follows t (Set x s) x o h (w .made) (w .judged)) in
     record {
@@ -207,34 +175,29 @@ module _ (t : List ℕ) (s : soundTable t ≡ true) (i : ℕ) (h : i ≤ 1) wher
   whole : length t ≡ tableSize
   whole = sound-length t s
 
-  motor-byte : (x : ℕ) (m : Motor) → x ≤ 15 → part (withMotor t x m) i 1 ≡ part t i 1
-  motor-byte x m l = head-kept t x m whole l i 1 (omega arith)
-
-  motors-byte : (f : Motor → Motor) → part (withMotors t f) i 1 ≡ part t i 1
-  unfolding withMotors put
-  motors-byte f =
-      let e = whole in
-      let g : List ℕ → List ℕ = λ r. recordOf (f (motorOf r)) in
-      let all = flatMap g (records t) in
-      let size : length all ≡ 1024 = flat-length g 64 64 16 (drop 64 t) (λ r. record-length (f (motorOf r))) in
-      rw (size, drop-of-length-le t {i = 1088} (omega arith), append-nil) at (part-before t all 64 i 1 (omega arith) (omega arith))
-
   errors-byte : (n : ℕ) → part (withErrors t n) i 1 ≡ part t i 1
   errors-byte n = let e = whole in part-before t (n ∷ []) 2 i 1 (omega arith) (omega arith)
 
+  head-byte : (o : Order) → ofHead o ≡ true → writesByte i o ≡ false → part (changed t o) i 1 ≡ part t i 1
+  unfolding changed ofHead modeOrder replyOrder
+  head-byte (Go x r) q e = absurd (false≢true q)
+  head-byte (Stop x flags) q e = absurd (false≢true q)
+  head-byte (StopAll flags) q e = absurd (false≢true q)
+  head-byte (ChangeSpeed x v) q e = absurd (false≢true q)
+  head-byte (Set x r) q e = absurd (false≢true q)
+  head-byte (Ask x r) q e = refl
+  head-byte (Mode n) q e = let z = whole in part-after t (n ∷ []) 0 i 1 (omega (arith, eqb-false i 0 (first (eqb i 0) e))) (omega arith)
+  head-byte (AllReply n) q e = let z = whole in part-before t (n ∷ []) 1 i 1 (omega (arith, eqb-true i 0 (second (eqb i 0) e))) (omega arith)
+  head-byte (AskHead r) q e = refl
+  head-byte ClearErrors q e = errors-byte 0
+  head-byte (ClearError n) q e = errors-byte (withoutBit n (errors t))
+
   order-byte : (o : Order) → orderMade o ≡ true → writesByte i o ≡ false → part (changed t o) i 1 ≡ part t i 1
-  unfolding changed orderMade modeOrder replyOrder
-  order-byte (Go x r) m e = motor-byte x (started (motorAt t x) (courseOf (motorAt t x) r)) (bench-channel x (startMade r) m)
-  order-byte (Stop x flags) m e = motor-byte x (stopped flags (motorAt t x)) (bench-channel x (endFlag flags) m)
-  order-byte (StopAll flags) m e = motors-byte (stopped flags)
-  order-byte (ChangeSpeed x v) m e = motor-byte x (speedChanged (motorAt t x) v) (leb-true x 15 m)
-  order-byte (Set x r) m e = motor-byte x (withSetting (motorAt t x) r) (bench-channel x (settingMade r) m)
-  order-byte (Ask x q) m e = refl
-  order-byte (Mode n) m e = let z = whole in part-after t (n ∷ []) 0 i 1 (omega (arith, eqb-false i 0 (first (eqb i 0) e))) (omega arith)
-  order-byte (AllReply n) m e = let z = whole in part-before t (n ∷ []) 1 i 1 (omega (arith, eqb-true i 0 (second (eqb i 0) e))) (omega arith)
-  order-byte (AskHead q) m e = refl
-  order-byte ClearErrors m e = errors-byte 0
-  order-byte (ClearError n) m e = errors-byte (withoutBit n (errors t))
+  order-byte o made = go (ofHead o) refl
+    where
+      go : (b : Bool) → ofHead o ≡ b → writesByte i o ≡ false → part (changed t o) i 1 ≡ part t i 1
+      go true e w = head-byte o e w
+      go false e w = changed-head t o i 1 s made e (omega arith)
 
   call-byte : (k : Call) → changesByte i t k ≡ false → part (after urqolina t k .table) i 1 ≡ part t i 1
   call-byte k = go (outcome t k s)
@@ -243,8 +206,8 @@ module _ (t : List ℕ) (s : soundTable t ≡ true) (i : ℕ) (h : i ≤ 1) wher
       go leaves e = refl
       go (refuses v) e = unfold flagged in errors-byte (withBit (numberOf v - 1) (errors t))
       go (obeys o m j) e = order-byte o m e
-      go (motor x m l) e = motor-byte x m l
-      go (motors f) e = motors-byte f
+      go (motor x m l) e = head-kept t x m whole l i 1 (omega arith)
+      go (motors f) e = motors-head t f i 1 s (omega arith)
 
   -- A byte that is written is there.
   byte-written : (n : ℕ) → word (part (put t i (n ∷ [])) i 1) ≡ n
@@ -265,6 +228,9 @@ reads-back b size ks k later line reply enough =
     record {
       setting = λ x s e h q.
           read (Ask x (questionFor s)) (textFor s) q refl refl (told-on u later x s sound h (settles t k x s start e) (mode v) x);
+      held = λ x s e h n. told-on u later x s sound h (settles t k x s start e) n x;
+      replyHeld = λ n e h. byte 1 (AllReply n) n (omega arith) e refl h;
+      modeHeld = λ n e h. byte 0 (Mode n) n (omega arith) e refl h;
       allReply = λ n e h q.
           read (AskHead AskAllReply) (cond (eqb n 1) (bytes "EN") (bytes "DS")) q refl refl (rw (byte 1 (AllReply n) n (omega arith) e refl h));
       mode = λ n x e h q.
@@ -282,7 +248,7 @@ reads-back b size ks k later line reply enough =
     v = run urqolina u later
 
     start : soundTable t ≡ true
-    start = ran-sound b ks size
+    start = ran-sound b size ks
 
     sound : soundTable u ≡ true
     sound = next t k start .sound

@@ -2,25 +2,21 @@
 use mathlib.Core.Path.{_≡_, refl, sym, ap, _∙_}
 use mathlib.Core.List.{List}
 use mathlib.Core.Bool.{Bool, true, false, _&&_, cond, false≢true}
-use Prim.Native.Nat.{ℕ, zero, suc, _+_, _*_, _-_, _%_, _≤_, _<_}
+use Prim.Native.Nat.{ℕ, _+_, _-_, _%_, _≤_, _<_}
 use native.Mathlib.Omega.{arith}
 use lib.ListN.{length}
 use lib.Dec.{eqb, ltb, leb}
-use borrow.Author.Tests.{eq-eqb, eqb-true, eqb-false, ltb-true, ltb-false}
-use Rattle.digits.specs.Bytes.{part}
-use Rattle.digits.specs.Words.{word, wordBytes}
-use Rattle.digits.specs.Places.{moved, countOf, cw}
+use borrow.Author.Tests.{eq-eqb, eqb-true, ltb-true, ltb-false}
+use Rattle.digits.specs.Places.{countOf, cw}
 use Rattle.digits.proofs.WordLaws.{word-bytes}
 use Rattle.record.specs.declared.Motor.{Motor}
 use Rattle.motor.specs.Switches.{blocked}
 use Rattle.motor.specs.Sound.{driving, soundMotor}
 use Rattle.motor.proofs.SoundLaws.{sound-bounds}
-use Rattle.drive.specs.declared.Ticked.{Ticked}
 use Rattle.drive.specs.declared.Course.{Course}
 use Rattle.drive.specs.declared.Course.the-variants.{Stay, Beyond, To, Along}
 use Rattle.drive.specs.Drives.{lsend, started, endedWith, stopped, speedChanged, contacted, switchRead}
 use Rattle.drive.specs.Ticks.{tickMotor, tickCount}
-use Rattle.drive.proofs.Laws.{stopped-given-none}
 use Rattle.drive.proofs.TickLaws.{place-moves}
 use Rattle.drive.proofs.KeptSound.{tick-sound, pulses-bound}
 use Rattle.line.specs.declared.Setting.{Setting}
@@ -34,7 +30,7 @@ use Rattle.drive.specs.Numbers.{numberOf}
 use Rattle.table.specs.Layout.{tableSize, motorAt}
 use Rattle.table.specs.Sound.{soundTable}
 use Rattle.table.proofs.TableLaws.{sound-length, sound-motor-at}
-use Rattle.urqolina.specs.Calls.{counts, tickCall}
+use Rattle.urqolina.specs.Calls.{tickCall}
 use Rattle.laws.specs.Sequences.{urqolina, Call, command, reading, tick, after}
 use Rattle.laws.specs.Deeds.{Deed, starts, stops, speeds, sets, reads, ticks, rests, deedIf, orderTaken, deedOf, deedTaken, deed}
 use Rattle.laws.specs.Ledger.{countAt, cwPulses, ccwPulses, Travel, resetBy, moving}

@@ -2,9 +2,11 @@
 -- channel. The table is a sound one, as it is after every sequence.
 use Prim.Native.Nat.{ℕ, zero, suc}
 use mathlib.Core.List.{List, [], _∷_}
-use mathlib.Core.Bool.{Bool, true, false, _&&_, cond}
+use mathlib.Core.Bool.{Bool, false, _&&_, cond}
 use lib.ListN.{length}
 use lib.Dec.{eqb, leb}
+use Rattle.drive.specs.declared.Verdict.{Verdict}
+use Rattle.drive.specs.declared.Verdict.the-variants.{NoForm}
 use Rattle.line.specs.declared.Start.{Start}
 use Rattle.line.specs.declared.Setting.{Setting}
 use Rattle.line.specs.declared.Order.{Order}
@@ -15,6 +17,11 @@ use Rattle.line.specs.Forms.{orderOf}
 use Rattle.commands.specs.Judging.{judge}
 use Rattle.urqolina.specs.Calls.{accepted}
 use Rattle.laws.specs.Sequences.{Call, command, reading, tick}
+
+-- the verdict on what a line is: "1 | .. | the line has none of the forms above", or what the rules judge
+abbrev pub verdict : List ℕ → Parsed → Verdict
+verdict t (Is o) = judge t o
+verdict t Nothing = NoForm
 
 -- the order of a line, where the rules accept it: "0 | OK | done"
 abbrev pub orderPassed : List ℕ → Parsed → Parsed

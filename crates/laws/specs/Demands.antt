@@ -12,29 +12,29 @@ use Rattle.text.specs.Text.{bytes}
 use Rattle.record.specs.declared.Motor.{Motor}
 use Rattle.motor.specs.Switches.{room, blocked}
 use Rattle.motor.specs.Sound.{driving}
-use Rattle.drive.specs.declared.Course.{Course}
 use Rattle.drive.specs.declared.Course.the-variants.{To}
 use Rattle.drive.specs.Numbers.{numberOf}
 use Rattle.drive.specs.Drives.{lsend, selectedSpeed, towards}
 use Rattle.drive.specs.Ticks.{roundedUp, toTarget}
 use Rattle.line.specs.declared.Start.{Start}
 use Rattle.line.specs.declared.Setting.{Setting}
+use Rattle.line.specs.declared.Question.{Question}
 use Rattle.line.specs.declared.Question.the-variants.{AskStatus}
+use Rattle.line.specs.declared.HeadQuestion.{HeadQuestion}
 use Rattle.line.specs.declared.HeadQuestion.the-variants.{AskAllReply}
 use Rattle.line.specs.declared.Order.{Order}
 use Rattle.line.specs.declared.Order.the-variants.{Go, Stop, StopAll, ChangeSpeed, Set, Ask, Mode, AllReply, AskHead, ClearErrors, ClearError}
-use Rattle.line.specs.declared.Parsed.{Parsed}
 use Rattle.line.specs.declared.Parsed.the-variants.{Is, Nothing}
 use Rattle.line.specs.Forms.{orderOf}
 use Rattle.orders.specs.Settings.{courseOf}
-use Rattle.replies.specs.Replies.{modeLetter, headText}
-use Rattle.table.specs.Layout.{tableSize, errors, withErrors, recordAt, motorAt, freshTable}
+use Rattle.replies.specs.Replies.{modeLetter, echo, questionText, headText}
+use Rattle.table.specs.Layout.{tableSize, mode, allReply, errors, withErrors, recordAt, motorAt, freshTable}
 use Rattle.table.specs.Sound.{soundTable}
 use Rattle.commands.specs.Judging.{judge}
 use Rattle.laws.specs.Sequences.{Library, Call, command, reading, tick, After, after, run, ran, never}
-use Rattle.laws.specs.Deeds.{Deed, starts, stops, speeds, sets, reads, ticks, rests, orderTaken, names, deedOf, deed, ticksIn}
+use Rattle.laws.specs.Deeds.{verdict, Deed, starts, stops, speeds, sets, reads, ticks, rests, orderTaken, names, deedOf, deed, ticksIn}
 use Rattle.laws.specs.Ledger.{countAt, against, Account, noDrive, setsOff, account, Travel, noTravel, travel}
-use Rattle.laws.specs.ReadBack.{questionFor, textFor, changes, changesMode, changesReply}
+use Rattle.laws.specs.ReadBack.{isSome, questionFor, textFor, changes, changesMode, changesReply}
 
 -- "the table is sound" after any sequence, "so 6 never comes"
 pub record Lasting (l : Library) : Type 0 where
@@ -143,12 +143,46 @@ module _ (l : Library) (b : List ℕ) (ks : List Call) (k : Call) (later : List 
     -- PS, FL, BL, SPDH, SPDM and SPDL with and without a number, SETLS and SETMT
     pub setting : (x : ℕ) (s : Setting) → orderTaken (ran l b ks) k ≡ Is (Set x s) → never l (changes l x s) tableSet later ≡ true
         → orderOf line ≡ Is (Ask x (questionFor s)) → after l (run l tableSet later) (command line reply) ≡ answered (textFor s)
+    -- and it is what the table holds, in the field that document 01 gives it
+    pub held : (x : ℕ) (s : Setting) → orderTaken (ran l b ks) k ≡ Is (Set x s) → never l (changes l x s) tableSet later ≡ true
+        → (n : ℕ) → questionText n x (motorAt (run l tableSet later) x) (questionFor s) ≡ textFor s
     -- ALL_REP EN and DS
+    pub replyHeld : (n : ℕ) → orderTaken (ran l b ks) k ≡ Is (AllReply n) → never l changesReply tableSet later ≡ true
+        → allReply (run l tableSet later) ≡ n
     pub allReply : (n : ℕ) → orderTaken (ran l b ks) k ≡ Is (AllReply n) → never l changesReply tableSet later ≡ true
         → orderOf line ≡ Is (AskHead AskAllReply) → after l (run l tableSet later) (command line reply) ≡ answered (cond (eqb n 1) (bytes "EN") (bytes "DS"))
     -- LOC and REM: the first letter of any channel's status
+    pub modeHeld : (n : ℕ) → orderTaken (ran l b ks) k ≡ Is (Mode n) → never l changesMode tableSet later ≡ true → mode (run l tableSet later) ≡ n
     pub mode : (n x : ℕ) → orderTaken (ran l b ks) k ≡ Is (Mode n) → never l changesMode tableSet later ≡ true
         → orderOf line ≡ Is (Ask x AskStatus) → getD (after l (run l tableSet later) (command line reply) .buffer) 0 0 ≡ modeLetter n
+
+-- an order is a read
+unfoldable pub asks : Order → Bool
+asks (Go x s) = false
+asks (Stop x flags) = false
+asks (StopAll flags) = false
+asks (ChangeSpeed x v) = false
+asks (Set x s) = false
+asks (Ask x q) = true
+asks (Mode k) = false
+asks (AllReply k) = false
+asks (AskHead q) = true
+asks ClearErrors = false
+asks (ClearError e) = false
+
+-- Demand 2, the replies of a line with a reply buffer of 32 bytes or more, on any sound table
+module _ (l : Library) (t line reply : List ℕ) (sound : soundTable t ≡ true) (enough : 32 ≤ length reply) where
+  pub record Replies : Type 0 where
+    -- "A read's reply is always written": its text from the table, which it leaves
+    pub reads : (x : ℕ) (q : Question) → orderOf line ≡ Is (Ask x q) → let text = questionText (mode t) x (motorAt t x) q in
+        after l t (command line reply) ≡ record { result = 256 * length text; table = t; buffer = put reply 0 text }
+    pub headReads : (q : HeadQuestion) → orderOf line ≡ Is (AskHead q) → let text = headText (allReply t) (errors t) q in
+        after l t (command line reply) ≡ record { result = 256 * length text; table = t; buffer = put reply 0 text }
+    -- "Other commands, and numbers 1 to 4, write their text if all-reply is on after the command, else nothing. Bytes past the reply
+    -- stay as they were."
+    pub others : isSome asks (orderOf line) ≡ false
+        → let a = after l t (command line reply) in let text = echo (allReply (a .table)) (verdict t (orderOf line)) in
+        (a .result ≡ numberOf (verdict t (orderOf line)) + 256 * length text) × (a .buffer ≡ put reply 0 text)
 
 -- an order of the head: LOC, REM, ALL_REP EN and DS, ERRC and ERRCe
 unfoldable pub ofHead : Order → Bool

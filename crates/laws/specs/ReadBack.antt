@@ -4,7 +4,7 @@ use Prim.Native.Nat.{ℕ, _+_}
 use mathlib.Core.List.{List, [], _∷_, _++_}
 use mathlib.Core.Bool.{Bool, true, false, not}
 use lib.Dec.{eqb}
-use Rattle.text.specs.Text.{bytes, digitByte}
+use Rattle.text.specs.Text.{digitByte}
 use Rattle.replies.specs.Replies.{positionText, speedText, selectedText}
 use Rattle.line.specs.declared.Four.{Four}
 use Rattle.line.specs.declared.Setting.{Setting}
