@@ -24,7 +24,7 @@ use Rattle.urqolina.specs.Calls.{CommandAfter, refused, obeyed, taken, commandC
 use Rattle.laws.specs.Sequences.{urqolina, after}
 use Rattle.laws.specs.Deeds.{verdict}
 use Rattle.laws.specs.ReadBack.{isSome}
-use Rattle.laws.specs.Demands.{asks, Replies}
+use Rattle.laws.specs.Numbers.{asks, Replies}
 use Rattle.laws.proofs.CallWays.{taken-ways}
 use Rattle.laws.proofs.Following.{done}
 use Rattle.laws.proofs.ReadBackLaws.{right-size, asked}

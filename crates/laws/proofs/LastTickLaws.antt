@@ -25,7 +25,7 @@ use Rattle.table.proofs.TableLaws.{sound-motor-at}
 use Rattle.laws.specs.Sequences.{urqolina, Call, command, reading, tick, after, run, ran, never}
 use Rattle.laws.specs.Deeds as D
 use Rattle.laws.specs.Deeds.{Deed, deedIf, orderTaken, deed, oneMore, ticksIn}
-use Rattle.laws.specs.Demands.{disturbs, lastTick, Undisturbed, LastTick}
+use Rattle.laws.specs.Pulses.{disturbs, lastTick, Undisturbed, LastTick}
 use Rattle.laws.proofs.DeedLaws.{performed, Fits, fits-start, fits-set}
 use Rattle.laws.proofs.Following.{Follows, next}
 use Rattle.laws.proofs.TravelLaws.{isTick, if-tick, taken-tick}

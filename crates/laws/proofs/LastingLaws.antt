@@ -12,7 +12,8 @@ use Rattle.table.proofs.KeptLaws.{fresh-sound}
 use Rattle.urqolina.specs.Calls.{TableAfter, freshCall}
 use Rattle.urqolina.proofs.Refusals.{fresh-made, command-accepted, reading-accepted, tick-accepted}
 use Rattle.laws.specs.Sequences.{urqolina, Call, command, reading, tick, after, run, ran}
-use Rattle.laws.specs.Demands.{sizesRight, Lasting}
+use Rattle.laws.specs.Numbers.{sizesRight}
+use Rattle.laws.specs.Pulses.{Lasting}
 use Rattle.laws.proofs.Following.{next}
 use Rattle.laws.proofs.NumberLaws.{numbers}
 

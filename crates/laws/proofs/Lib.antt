@@ -12,3 +12,4 @@ pub mod LastTickLaws
 pub mod SettingLaws
 pub mod ReadBackLaws
 pub mod AnswerLaws
+pub mod DemandLaws

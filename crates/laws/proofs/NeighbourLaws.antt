@@ -35,7 +35,8 @@ use Rattle.commands.proofs.ChannelLaws.{named, named-channel}
 use Rattle.urqolina.specs.Calls.{refused, obeyed, commandCall, tickCall}
 use Rattle.laws.specs.Sequences.{urqolina, Call, command, reading, tick, after}
 use Rattle.laws.specs.Deeds.{Deed, starts, stops, speeds, sets, reads, ticks, rests, deedIf, names, deedOf}
-use Rattle.laws.specs.Demands.{ofHead, isCommand, Neighbours}
+use Rattle.laws.specs.Neighbours.{ofHead, Neighbours}
+use Rattle.laws.specs.Numbers.{isCommand}
 use Rattle.laws.proofs.PartLaws.{motors-record}
 use Rattle.laws.proofs.CallWays.{command-ways, reading-ways, tick-ways, refused-number}
 use Rattle.laws.proofs.Following.{head-record}

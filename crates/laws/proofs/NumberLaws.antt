@@ -20,7 +20,7 @@ use Rattle.urqolina.specs.Calls.{refused, obeyed, commandCall}
 use Rattle.urqolina.proofs.Refusals.{fresh-made, fresh-refused, command-size, command-unsound, reading-size, reading-unsound, tick-size, tick-unsound, reading-accepted, tick-accepted}
 use Rattle.laws.specs.Sequences.{urqolina, Call, command, reading, tick, After, after}
 use Rattle.laws.specs.Deeds.{verdict, orderTaken}
-use Rattle.laws.specs.Demands.{isCommand, lent, sizesRight, Numbers}
+use Rattle.laws.specs.Numbers.{isCommand, lent, sizesRight, Numbers}
 use Rattle.laws.proofs.CallWays.{sound-ways, command-ways, reading-ways, tick-ways, refused-number, obeyed-number, line-number}
 
 -- A call with a wrong size gives 5, and one on a table that is not sound 6.

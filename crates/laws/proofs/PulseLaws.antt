@@ -31,7 +31,7 @@ use Rattle.laws.specs.Sequences.{urqolina, Call, after, run, ran}
 use Rattle.laws.specs.Deeds as D
 use Rattle.laws.specs.Deeds.{Deed, deed}
 use Rattle.laws.specs.Ledger.{countAt, against, wayOf, Account, noDrive, setsOff, entered, account, Travel, noTravel, moving, travel}
-use Rattle.laws.specs.Demands.{Demand3, Ends, byStop, bySwitch, byTarget, byRoom}
+use Rattle.laws.specs.Pulses.{Demand3, Ends, byStop, bySwitch, byTarget, byRoom}
 use Rattle.laws.proofs.PartLaws.{fresh-motor}
 use Rattle.laws.proofs.DeedLaws.{performed, Fits, fits-start, fits-set}
 use Rattle.laws.proofs.Following.{Follows, next}

@@ -43,8 +43,8 @@ use Rattle.urqolina.specs.Calls.{refused, obeyed, taken, commandCall}
 use Rattle.laws.specs.Sequences.{urqolina, Call, command, reading, tick, after, run, ran, never}
 use Rattle.laws.specs.Deeds.{verdict, sets, orderTaken, deedOf, deed}
 use Rattle.laws.specs.Ledger.{countAt}
-use Rattle.laws.specs.ReadBack.{questionFor, textFor, changes, modeOrder, replyOrder, isSome}
-use Rattle.laws.specs.Demands.{ofHead, ReadsBack}
+use Rattle.laws.specs.ReadBack.{questionFor, textFor, changes, modeOrder, replyOrder, isSome, ReadsBack}
+use Rattle.laws.specs.Neighbours.{ofHead}
 use Rattle.laws.proofs.DeedLaws.{Fits, fits-set, performed}
 use Rattle.laws.proofs.Following.{Follows, order-follows, next}
 use Rattle.laws.proofs.CallWays.{sound-ways, reading-ways, tick-ways}

@@ -1,24 +1,30 @@
 -- Demand 2: "An accepted setting reads back with its value until something changes it." What each setting is read back by, the
 -- bytes of the answer as the line wrote them, and what changes it.
-use Prim.Native.Nat.{ℕ, _+_}
+use Prim.Native.Nat.{ℕ, _+_, _*_, _≤_}
 use mathlib.Core.List.{List, [], _∷_, _++_}
-use mathlib.Core.Bool.{Bool, true, false, not}
+use mathlib.Core.Bool.{Bool, true, false, not, cond}
 use lib.Dec.{eqb}
-use Rattle.text.specs.Text.{digitByte}
-use Rattle.replies.specs.Replies.{positionText, speedText, selectedText}
+use Rattle.text.specs.Text.{digitByte, bytes}
+use Rattle.replies.specs.Replies.{positionText, speedText, selectedText, modeLetter, questionText}
 use Rattle.line.specs.declared.Four.{Four}
 use Rattle.line.specs.declared.Setting.{Setting}
 use Rattle.line.specs.declared.Setting.the-variants.{Preset, SetCwLimit, SetCcwLimit, Select, SetSpeed, SetSwitches, SetMotor}
 use Rattle.line.specs.declared.Question.{Question}
-use Rattle.line.specs.declared.Question.the-variants.{AskPosition, AskCwLimit, AskCcwLimit, AskSelected, AskSpeed, AskSwitches, AskMotor}
+use Rattle.line.specs.declared.Question.the-variants.{AskPosition, AskCwLimit, AskCcwLimit, AskSelected, AskSpeed, AskSwitches, AskMotor, AskStatus}
 use Rattle.line.specs.declared.Order.{Order}
 use Rattle.line.specs.declared.Order.the-variants.{Go, Stop, StopAll, ChangeSpeed, Set, Ask, Mode, AllReply, AskHead, ClearErrors, ClearError}
 use Rattle.line.specs.declared.Parsed.{Parsed}
 use Rattle.line.specs.declared.Parsed.the-variants.{Is, Nothing}
 use Rattle.orders.specs.Settings.{placeWritten}
-use Rattle.laws.specs.Sequences.{Library, Call, after}
+use Rattle.laws.specs.Sequences.{Library, Call, after, command, After, run, ran, never}
 use Rattle.laws.specs.Deeds.{Deed, starts, stops, speeds, sets, reads, ticks, rests, orderTaken, deed}
 use Rattle.laws.specs.Ledger.{countAt}
+use mathlib.Core.Path.{_≡_}
+use lib.ListN.{length, getD}
+use Rattle.digits.specs.Bytes.{put}
+use Rattle.line.specs.declared.HeadQuestion.the-variants.{AskAllReply}
+use Rattle.line.specs.Forms.{orderOf}
+use Rattle.table.specs.Layout.{mode, allReply, motorAt}
 
 -- the read command of each setting: `PS?x`, `FL?x`, `BL?x`, `SPD?x`, `SPDH?x`, `SPDM?x`, `SPDL?x`, `SETLS?x`, `SETMT?x`
 unfoldable pub questionFor : Setting → Question
@@ -113,3 +119,29 @@ changesMode t k = isSome modeOrder (orderTaken t k)
 
 abbrev pub changesReply : List ℕ → Call → Bool
 changesReply t k = isSome replyOrder (orderTaken t k)
+
+-- Demand 2, the settings: what was accepted is what the read command answers, in the exact bytes of the reply, after any calls
+-- that do not change it. k is the accepted setting, `later` the calls after it, `line` the read command.
+module _ (l : Library) (b : List ℕ) (ks : List Call) (k : Call) (later : List Call) (line reply : List ℕ) (enough : 32 ≤ length reply) where
+  abbrev pub tableSet : List ℕ
+  tableSet = after l (ran l b ks) k .table
+
+  abbrev pub answered : List ℕ → After
+  answered text = record { result = 256 * length text; table = run l tableSet later; buffer = put reply 0 text }
+
+  pub record ReadsBack : Type 0 where
+    -- PS, FL, BL, SPDH, SPDM and SPDL with and without a number, SETLS and SETMT
+    pub setting : (x : ℕ) (s : Setting) → orderTaken (ran l b ks) k ≡ Is (Set x s) → never l (changes l x s) tableSet later ≡ true
+        → orderOf line ≡ Is (Ask x (questionFor s)) → after l (run l tableSet later) (command line reply) ≡ answered (textFor s)
+    -- and it is what the table holds, in the field that document 01 gives it
+    pub held : (x : ℕ) (s : Setting) → orderTaken (ran l b ks) k ≡ Is (Set x s) → never l (changes l x s) tableSet later ≡ true
+        → (n : ℕ) → questionText n x (motorAt (run l tableSet later) x) (questionFor s) ≡ textFor s
+    -- ALL_REP EN and DS
+    pub replyHeld : (n : ℕ) → orderTaken (ran l b ks) k ≡ Is (AllReply n) → never l changesReply tableSet later ≡ true
+        → allReply (run l tableSet later) ≡ n
+    pub allReply : (n : ℕ) → orderTaken (ran l b ks) k ≡ Is (AllReply n) → never l changesReply tableSet later ≡ true
+        → orderOf line ≡ Is (AskHead AskAllReply) → after l (run l tableSet later) (command line reply) ≡ answered (cond (eqb n 1) (bytes "EN") (bytes "DS"))
+    -- LOC and REM: the first letter of any channel's status
+    pub modeHeld : (n : ℕ) → orderTaken (ran l b ks) k ≡ Is (Mode n) → never l changesMode tableSet later ≡ true → mode (run l tableSet later) ≡ n
+    pub mode : (n x : ℕ) → orderTaken (ran l b ks) k ≡ Is (Mode n) → never l changesMode tableSet later ≡ true
+        → orderOf line ≡ Is (Ask x AskStatus) → getD (after l (run l tableSet later) (command line reply) .buffer) 0 0 ≡ modeLetter n

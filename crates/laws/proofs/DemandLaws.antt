@@ -1,0 +1,22 @@
+-- The demands hold of the four calls as they are defined. Assumes nothing.
+use Rattle.laws.specs.Sequences.{urqolina}
+use Rattle.laws.specs.Demands.{Demands}
+use Rattle.laws.proofs.NumberLaws.{numbers}
+use Rattle.laws.proofs.NeighbourLaws.{neighbours}
+use Rattle.laws.proofs.AnswerLaws.{replies}
+use Rattle.laws.proofs.ReadBackLaws.{reads-back}
+use Rattle.laws.proofs.LastingLaws.{lasting}
+use Rattle.laws.proofs.PulseLaws.{demand-3}
+use Rattle.laws.proofs.LastTickLaws.{last-tick}
+
+pub demands : Demands urqolina
+demands =
+    record {
+      numbers = numbers;
+      replies = replies;
+      neighbours = neighbours;
+      readBack = reads-back;
+      lasting = lasting;
+      pulses = demand-3;
+      lastTick = last-tick;
+    }

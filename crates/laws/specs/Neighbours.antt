@@ -1,0 +1,49 @@
+-- Demand 2, what a call leaves byte for byte.
+use mathlib.Core.Path.{_≡_}
+use mathlib.Core.List.{List}
+use mathlib.Core.Bool.{Bool, true, false}
+use Prim.Native.Nat.{ℕ, _%_, _≤_}
+use Rattle.digits.specs.Bytes.{AllBytes, part}
+use Rattle.motor.specs.Sound.{driving}
+use Rattle.line.specs.declared.Order.{Order}
+use Rattle.line.specs.declared.Order.the-variants.{Go, Stop, StopAll, ChangeSpeed, Set, Ask, Mode, AllReply, AskHead, ClearErrors, ClearError}
+use Rattle.line.specs.declared.Parsed.the-variants.{Is}
+use Rattle.line.specs.Forms.{orderOf}
+use Rattle.table.specs.Layout.{recordAt, motorAt}
+use Rattle.laws.specs.Sequences.{Library, Call, command, reading, tick, after}
+use Rattle.laws.specs.Deeds.{stops, rests, names, deedOf}
+use Rattle.laws.specs.Numbers.{isCommand}
+
+-- an order of the head: LOC, REM, ALL_REP EN and DS, ERRC and ERRCe
+unfoldable pub ofHead : Order → Bool
+ofHead (Go x s) = false
+ofHead (Stop x flags) = false
+ofHead (StopAll flags) = false
+ofHead (ChangeSpeed x v) = false
+ofHead (Set x s) = false
+ofHead (Ask x q) = false
+ofHead (Mode k) = true
+ofHead (AllReply k) = true
+ofHead (AskHead q) = false
+ofHead ClearErrors = true
+ofHead (ClearError e) = true
+
+-- Demand 2, what a call leaves byte for byte, on any table whatever it holds
+pub record Neighbours (l : Library) : Type 0 where
+  -- "A command naming channel x leaves the other fifteen records byte for byte"
+  pub others : (t line reply : List ℕ) (o : Order) (x d : ℕ) → orderOf line ≡ Is o → names x o ≡ true → (d ≡ x → ⊥)
+      → recordAt (l .command t line reply .table) d ≡ recordAt t d
+  -- "here only ASSTP and AESTP, which name none, reach several": a line that is nothing to a channel leaves its record
+  pub unreached : (t line reply : List ℕ) (o : Order) (d : ℕ) → orderOf line ≡ Is o → deedOf d o ≡ rests
+      → recordAt (l .command t line reply .table) d ≡ recordAt t d
+  -- ASSTP, AESTP, and "a stop on a stopped motor", leave a record that stands stopped; the table is bytes, as memory is
+  pub stopped : (t line reply : List ℕ) (o : Order) (flags d : ℕ) → AllBytes t → d ≤ 15 → orderOf line ≡ Is o → deedOf d o ≡ stops flags
+      → driving (motorAt t d) ≡ false → recordAt (l .command t line reply .table) d ≡ recordAt t d
+  -- a tick leaves such a record too
+  pub unticked : (t p : List ℕ) (d : ℕ) → AllBytes t → d ≤ 15 → driving (motorAt t d) ≡ false → recordAt (l .tick t p .table) d ≡ recordAt t d
+  -- a switch reading leaves every record but its channel's
+  pub readings : (t : List ℕ) (c n d : ℕ) → (d ≡ c → ⊥) → recordAt (l .reading t c n .table) d ≡ recordAt t d
+  -- an accepted order that is not of the head leaves the head, and so do readings and ticks
+  pub head : (t line reply : List ℕ) (o : Order) → orderOf line ≡ Is o → ofHead o ≡ false → l .command t line reply .result % 256 ≡ 0
+      → part (l .command t line reply .table) 0 64 ≡ part t 0 64
+  pub headLeft : (t : List ℕ) (k : Call) → isCommand k ≡ false → part (after l t k .table) 0 64 ≡ part t 0 64

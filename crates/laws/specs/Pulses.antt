@@ -1,0 +1,114 @@
+-- Demand 3, over any sequence of calls after a fresh one, and when a drive ends.
+use mathlib.Core.Path.{_≡_}
+use mathlib.Core.List.{List}
+use mathlib.Core.Bool.{Bool, true, false}
+use Prim.Native.Nat.{ℕ, _+_, _*_, _%_, _≤_, _<_}
+use lib.ListN.{length}
+use Rattle.digits.specs.Places.{ahead}
+use Rattle.record.specs.declared.Motor.{Motor}
+use Rattle.motor.specs.Switches.{room, blocked}
+use Rattle.motor.specs.Sound.{driving}
+use Rattle.drive.specs.declared.Course.the-variants.{To}
+use Rattle.drive.specs.Drives.{lsend, selectedSpeed, towards}
+use Rattle.drive.specs.Ticks.{roundedUp, toTarget}
+use Rattle.line.specs.declared.Start.{Start}
+use Rattle.orders.specs.Settings.{courseOf}
+use Rattle.table.specs.Layout.{tableSize, motorAt}
+use Rattle.table.specs.Sound.{soundTable}
+use Rattle.laws.specs.Sequences.{Library, Call, tick, after, run, ran, never}
+use Rattle.laws.specs.Deeds.{Deed, starts, stops, speeds, sets, reads, ticks, rests, deed, ticksIn}
+use Rattle.laws.specs.Ledger.{countAt, against, Account, noDrive, setsOff, account, Travel, noTravel, travel}
+
+-- "the table is sound" after any sequence, "so 6 never comes"
+pub record Lasting (l : Library) : Type 0 where
+  pub sound : (b : List ℕ) → length b ≡ tableSize → (ks : List Call) → soundTable (ran l b ks) ≡ true
+  pub neverSix : (b : List ℕ) → length b ≡ tableSize → (ks : List Call) (k : Call) → after l (ran l b ks) k .result % 256 ≡ 6 → ⊥
+
+-- Demand 3, of channel c after a fresh call on the bytes b and the calls ks. Every beginning of a sequence is a sequence, so what
+-- is stated here holds of every drive at every moment of it.
+module _ (l : Library) (b : List ℕ) (c : ℕ) (ks : List Call) where
+  -- the table, the account of the last drive, and the way since the last preset
+  abbrev pub tableNow : List ℕ
+  tableNow = ran l b ks
+
+  abbrev pub motorNow : Motor
+  motorNow = motorAt (ran l b ks) c
+
+  abbrev pub accountNow : Account
+  accountNow = account l c (l .fresh b .table) noDrive ks
+
+  abbrev pub travelNow : Travel
+  travelNow = travel l c (l .fresh b .table) noTravel ks
+
+  -- the motor after one call more
+  abbrev pub motorNext : Call → Motor
+  motorNext k = motorAt (after l tableNow k .table) c
+
+  -- why a drive ends with a call k, and with which end flags: a stop; a switch reading after which "the switch of its direction is
+  -- now active and enabled"; a tick that reaches the target; or one that uses the room up
+  pub data Ends (k : Call) : Type 0 where
+    byStop : (flags : ℕ) → deed c tableNow k ≡ stops flags → motorNext k .ended ≡ flags → Ends k
+    bySwitch : (n : ℕ) → deed c tableNow k ≡ reads n → blocked (motorNow .drive .going) (motorNext k) ≡ true → motorNext k .ended ≡ lsend → Ends k
+    byTarget : deed c tableNow k ≡ ticks → toTarget motorNow ≡ true → motorNext k .place ≡ motorNow .drive .target → motorNext k .ended ≡ 0 → Ends k
+    byRoom : deed c tableNow k ≡ ticks → room (motorNow .drive .going) (motorNext k) ≡ 0 → motorNext k .ended ≡ lsend → Ends k
+
+  pub record Demand3 : Type 0 where
+    -- "A thousand times the pulses given never exceeds that sum"
+    pub neverMore : 1000 * accountNow .pulses ≤ accountNow .sum
+    -- "and while the drive lasts the sum is less than a thousand above it"
+    pub neverLess : accountNow .lasts ≡ true → accountNow .sum < 1000 * accountNow .pulses + 1000
+    -- "each drive that demand 2 starts": an accepted start drives, and nothing drives but such a drive
+    pub starting : (k : Call) (s : Start) → deed c tableNow k ≡ starts s → setsOff motorNow s ≡ true → driving (motorNext k) ≡ true
+    pub lasting : accountNow .lasts ≡ driving motorNow
+    -- "the speeds in force": the account's speed is the one that the table holds
+    pub speed : accountNow .lasts ≡ true → accountNow .speed ≡ motorNow .drive .speed
+    -- "CW positive": the pulses of a drive go its way
+    pub oneWay : accountNow .lasts ≡ true → (p : List ℕ) → length p ≡ 64 → against (accountNow .going) (countAt (l .tick tableNow p .pulses) c) ≡ 0
+    -- a drive lasts until something ends it, and a stop or an active switch does: "A stop ends the drive at once"
+    pub ending : (k : Call) → driving motorNow ≡ true → driving (motorNext k) ≡ false → Ends k
+    pub stopping : (k : Call) (flags : ℕ) → deed c tableNow k ≡ stops flags → driving (motorNext k) ≡ false
+    pub switching : (k : Call) (n : ℕ) → deed c tableNow k ≡ reads n → blocked (motorNow .drive .going) (motorNext k) ≡ true → driving (motorNext k) ≡ false
+    -- "A motor that stands stopped when the tick comes gets none."
+    pub none : driving motorNow ≡ false → (p : List ℕ) → length p ≡ 64 → countAt (l .tick tableNow p .pulses) c ≡ 0
+    -- "Each channel's position is its last accepted preset, or zero, plus the CW pulses given since, less the CCW pulses."
+    pub position : motorNow .place + travelNow .ccw ≡ travelNow .preset + travelNow .cw
+
+-- "A drive to a target at distance D and speed v, with no stop, SPC or switch reading on its channel and D within room, ends at
+-- tick D·1000/v rounded up." A deed that disturbs it so:
+unfoldable pub disturbs : Deed → Bool
+disturbs (starts s) = false
+disturbs (stops flags) = true
+disturbs (speeds v) = true
+disturbs (sets s) = false
+disturbs (reads n) = true
+disturbs ticks = false
+disturbs rests = false
+
+-- The drive begins with an accepted start k of channel c to the place p; `later` are the calls after it, any but such.
+module _ (l : Library) (b : List ℕ) (c : ℕ) (ks : List Call) (k : Call) (p : ℕ) (later : List Call) where
+  -- D, and D·1000/v rounded up
+  abbrev pub distance : ℕ
+  distance = ahead (towards (motorNow l b c ks) p) (motorNow l b c ks .place) p
+
+  abbrev pub lastTick : ℕ
+  lastTick = roundedUp (distance * 1000) (selectedSpeed (motorNow l b c ks))
+
+  pub record Undisturbed : Type 0 where
+    pub start : Start
+    pub begins : deed c (ran l b ks) k ≡ starts start
+    pub aimed : courseOf (motorNow l b c ks) start ≡ To p
+    pub within : distance ≤ room (towards (motorNow l b c ks) p) (motorNow l b c ks)
+    pub alone : never l (λ t j. disturbs (deed c t j)) (after l (ran l b ks) k .table) later ≡ true
+
+  -- the table after `later`
+  abbrev pub tableLater : List ℕ
+  tableLater = run l (after l (ran l b ks) k .table) later
+
+  pub record LastTick : Type 0 where
+    -- it drives as long as fewer ticks have come
+    pub before : Undisturbed → ticksIn later < lastTick → driving (motorAt tableLater c) ≡ true
+    -- and with that tick it stands stopped at its target, with end flags 0
+    pub with :
+        Undisturbed → ticksIn later + 1 ≡ lastTick → (pulses : List ℕ) → length pulses ≡ 64
+        → (driving (motorAt (l .tick tableLater pulses .table) c) ≡ false) × (motorAt (l .tick tableLater pulses .table) c .place ≡ p)
+        × (motorAt (l .tick tableLater pulses .table) c .ended ≡ 0)
