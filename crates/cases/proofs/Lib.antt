@@ -1,3 +1,5 @@
 pub mod Steps
 pub mod Marked
 pub mod Cases
+pub mod LedgerCases
+pub mod WrongLibraries

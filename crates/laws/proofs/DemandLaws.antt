@@ -5,6 +5,7 @@ use Rattle.laws.proofs.NumberLaws.{numbers}
 use Rattle.laws.proofs.NeighbourLaws.{neighbours}
 use Rattle.laws.proofs.AnswerLaws.{replies}
 use Rattle.laws.proofs.ReadBackLaws.{reads-back}
+use Rattle.laws.proofs.SettledLaws.{settled-so}
 use Rattle.laws.proofs.LastingLaws.{lasting}
 use Rattle.laws.proofs.PulseLaws.{demand-3}
 use Rattle.laws.proofs.LastTickLaws.{last-tick}
@@ -16,6 +17,7 @@ demands =
       replies = replies;
       neighbours = neighbours;
       readBack = reads-back;
+      settled = settled-so;
       lasting = lasting;
       pulses = demand-3;
       lastTick = last-tick;

@@ -12,4 +12,5 @@ pub mod LastTickLaws
 pub mod SettingLaws
 pub mod ReadBackLaws
 pub mod AnswerLaws
+pub mod SettledLaws
 pub mod DemandLaws

@@ -3,7 +3,7 @@ use mathlib.Core.Path.{_≡_, refl, sym, _∙_}
 use mathlib.Core.List.{List, [], _∷_}
 use mathlib.Core.Bool.{Bool, true, false, _&&_, cond, false≢true}
 use mathlib.Core.Logic.{_⊎_, inl, inr, ⊎-elim}
-use Prim.Native.Nat.{ℕ, _≤_}
+use Prim.Native.Nat.{ℕ, _+_, _≤_}
 use native.Mathlib.Omega.{arith}
 use lib.ListN.{length}
 use lib.Dec.{eqb}
@@ -17,8 +17,8 @@ use Rattle.motor.proofs.SoundLaws.{sound-driving, sound-bounds}
 use Rattle.motor.proofs.RoomLaws.{moved-ahead, room-moved}
 use Rattle.drive.specs.declared.Ticked.{Ticked}
 use Rattle.drive.specs.Drives.{lsend, started, endedWith, stopped, contacted, switchRead, speedChanged}
-use Rattle.drive.specs.Ticks.{toTarget, distanceLeft, given, tickMotor, tickCount}
-use Rattle.drive.proofs.Laws.{stopped-given-none, stopped-none}
+use Rattle.drive.specs.Ticks.{toTarget, distanceLeft, roomLeft, given, tickMotor, tickCount}
+use Rattle.drive.proofs.Laws.{given-room, given-distance, stopped-given-none, stopped-none}
 use Rattle.drive.proofs.KeptSound.{pulses-bound}
 use Rattle.drive.proofs.TickLaws.{Way, rests, arrives, ends, goes, way, reached-all, room-all}
 use Rattle.line.specs.declared.Start.{Start}
@@ -30,7 +30,7 @@ use Rattle.table.proofs.TableLaws.{sound-motor-at}
 use Rattle.laws.specs.Sequences.{urqolina, Call, after, run, ran}
 use Rattle.laws.specs.Deeds as D
 use Rattle.laws.specs.Deeds.{Deed, deed}
-use Rattle.laws.specs.Ledger.{countAt, against, wayOf, Account, noDrive, setsOff, entered, account, Travel, noTravel, moving, travel}
+use Rattle.laws.specs.Ledger.{countAt, cwPulses, ccwPulses, against, wayOf, Account, noDrive, setsOff, entered, account, Travel, noTravel, moving, travel}
 use Rattle.laws.specs.Pulses.{Demand3, Ends, byStop, bySwitch, byTarget, byRoom}
 use Rattle.laws.proofs.PartLaws.{fresh-motor}
 use Rattle.laws.proofs.DeedLaws.{performed, Fits, fits-start, fits-set}
@@ -144,6 +144,12 @@ one-way m s =
     go true = refl
     go false = refl
 
+-- No tick of a drive goes past its room or its target.
+capped : (m : Motor) → soundMotor m ≡ true → driving m ≡ true
+    → (cwPulses (tickCount m) + ccwPulses (tickCount m) ≤ roomLeft m) × (toTarget m ≡ true → cwPulses (tickCount m) + ccwPulses (tickCount m) ≤ distanceLeft m)
+unfolding tickMotor
+capped m s d = let n = rw d at (tick-counted m s) in rw n (given-room m, given-distance m)
+
 -- A stop leaves nothing driving, and its end flags where something drove.
 stop-so : (m : Motor) (flags : ℕ) → soundMotor m ≡ true → (driving (stopped flags m) ≡ false) × (driving m ≡ true → stopped flags m .ended ≡ flags)
 stop-so m flags s = (rw (stopped-none flags m s), λ d. unfold stopped in rw d)
@@ -217,6 +223,7 @@ module _ (b : List ℕ) (whole : length b ≡ tableSize) (c : ℕ) (on : c ≤ 1
         ending = ending;
         stopping = stopping;
         switching = switching;
+        within = λ d p long. rw (count-read t p c s long on) (capped m o d);
         none = λ d p long. rw (count-read t p c s long on) (stopped-count m d);
         position = kept;
       }

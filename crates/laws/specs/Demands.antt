@@ -10,7 +10,7 @@ use Rattle.laws.specs.Sequences.{Library, Call}
 use Rattle.laws.specs.Numbers.{Numbers, Replies}
 use Rattle.laws.specs.Neighbours.{Neighbours}
 use Rattle.laws.specs.ReadBack.{ReadsBack}
-use Rattle.laws.specs.Pulses.{Lasting, Demand3, LastTick}
+use Rattle.laws.specs.Pulses.{Lasting, Demand3, Settled, LastTick}
 
 pub record Demands (l : Library) : Type 0 where
   -- 1. "Every call takes all inputs .. Each refusal has its number, and document 01 says what it leaves in the table, the reply and
@@ -23,6 +23,7 @@ pub record Demands (l : Library) : Type 0 where
   -- "An accepted setting reads back with its value until something changes it."
   pub readBack : (b : List ℕ) → length b ≡ tableSize → (ks : List Call) (k : Call) (later : List Call) (line reply : List ℕ) (enough : 32 ≤ length reply)
       → ReadsBack l b ks k later line reply enough
+  pub settled : (b : List ℕ) → length b ≡ tableSize → (c : ℕ) → c ≤ 15 → (ks : List Call) → Settled l b c ks
   -- 3. "For any sequence of commands, readings and ticks after a fresh table, refused ones included, where nothing else writes to the
   -- table", of each channel
   pub lasting : Lasting l

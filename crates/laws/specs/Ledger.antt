@@ -9,12 +9,12 @@ use Rattle.digits.specs.Words.{word}
 use Rattle.digits.specs.Places.{origin, cw}
 use Rattle.record.specs.declared.Motor.{Motor}
 use Rattle.motor.specs.Sound.{driving}
-use Rattle.drive.specs.Drives.{selectedSpeed, towards}
+use Rattle.drive.specs.Drives.{selectedSpeed, towards, contacted}
 use Rattle.line.specs.declared.Start.{Start}
 use Rattle.line.specs.declared.Start.the-variants.{Abs, Rel, Scan, Jog}
 use Rattle.line.specs.declared.Setting.{Setting}
 use Rattle.line.specs.declared.Setting.the-variants.{Preset, SetCwLimit, SetCcwLimit, Select, SetSpeed, SetSwitches, SetMotor}
-use Rattle.orders.specs.Settings.{directionOf, placeWritten}
+use Rattle.orders.specs.Settings.{directionOf, placeWritten, withSetting}
 use Rattle.table.specs.Layout.{motorAt}
 use Rattle.laws.specs.Sequences.{Library, Call, after}
 use Rattle.laws.specs.Deeds.{Deed, starts, stops, speeds, sets, reads, ticks, rests, deed}
@@ -130,3 +130,19 @@ travel l c t j [] = j
 travel l c t j (k ∷ ks) =
     let u = after l t k in
     travel l c (u .table) (moving (countAt (u .buffer) c) j (deed c t k)) ks
+
+-- the settings of a channel: what an accepted setting makes of them, and "A switch reading replaces the contacts"; nothing else
+-- changes any
+unfoldable pub settled : Motor → Deed → Motor
+settled m (starts s) = m
+settled m (stops flags) = m
+settled m (speeds v) = m
+settled m (sets s) = withSetting m s
+settled m (reads n) = contacted m n
+settled m ticks = m
+settled m rests = m
+
+-- the settings of channel c after a sequence of calls on a table
+unfoldable pub settings : Library → ℕ → List ℕ → Motor → List Call → Motor
+settings l c t m [] = m
+settings l c t m (k ∷ ks) = settings l c (after l t k .table) (settled m (deed c t k)) ks

@@ -6,18 +6,19 @@ use Prim.Native.Nat.{ℕ, _+_, _*_, _%_, _≤_, _<_}
 use lib.ListN.{length}
 use Rattle.digits.specs.Places.{ahead}
 use Rattle.record.specs.declared.Motor.{Motor}
+use Rattle.record.specs.Record.{freshMotor}
 use Rattle.motor.specs.Switches.{room, blocked}
 use Rattle.motor.specs.Sound.{driving}
 use Rattle.drive.specs.declared.Course.the-variants.{To}
 use Rattle.drive.specs.Drives.{lsend, selectedSpeed, towards}
-use Rattle.drive.specs.Ticks.{roundedUp, toTarget}
+use Rattle.drive.specs.Ticks.{roundedUp, toTarget, distanceLeft, roomLeft}
 use Rattle.line.specs.declared.Start.{Start}
 use Rattle.orders.specs.Settings.{courseOf}
 use Rattle.table.specs.Layout.{tableSize, motorAt}
 use Rattle.table.specs.Sound.{soundTable}
 use Rattle.laws.specs.Sequences.{Library, Call, tick, after, run, ran, never}
 use Rattle.laws.specs.Deeds.{Deed, starts, stops, speeds, sets, reads, ticks, rests, deed, ticksIn}
-use Rattle.laws.specs.Ledger.{countAt, against, Account, noDrive, setsOff, account, Travel, noTravel, travel}
+use Rattle.laws.specs.Ledger.{countAt, cwPulses, ccwPulses, against, Account, noDrive, setsOff, account, Travel, noTravel, travel, settings}
 
 -- "the table is sound" after any sequence, "so 6 never comes"
 pub record Lasting (l : Library) : Type 0 where
@@ -39,6 +40,10 @@ module _ (l : Library) (b : List ℕ) (c : ℕ) (ks : List Call) where
 
   abbrev pub travelNow : Travel
   travelNow = travel l c (l .fresh b .table) noTravel ks
+
+  -- the settings since fresh
+  abbrev pub settingsNow : Motor
+  settingsNow = settings l c (l .fresh b .table) freshMotor ks
 
   -- the motor after one call more
   abbrev pub motorNext : Call → Motor
@@ -68,10 +73,20 @@ module _ (l : Library) (b : List ℕ) (c : ℕ) (ks : List Call) where
     pub ending : (k : Call) → driving motorNow ≡ true → driving (motorNext k) ≡ false → Ends k
     pub stopping : (k : Call) (flags : ℕ) → deed c tableNow k ≡ stops flags → driving (motorNext k) ≡ false
     pub switching : (k : Call) (n : ℕ) → deed c tableNow k ≡ reads n → blocked (motorNow .drive .going) (motorNext k) ≡ true → driving (motorNext k) ≡ false
+    -- "Pulses given are the least of due, room and, for a target, the distance left": no tick goes past either
+    pub within : driving motorNow ≡ true → (p : List ℕ) → length p ≡ 64 → let n = countAt (l .tick tableNow p .pulses) c in
+        (cwPulses n + ccwPulses n ≤ roomLeft motorNow) × (toTarget motorNow ≡ true → cwPulses n + ccwPulses n ≤ distanceLeft motorNow)
     -- "A motor that stands stopped when the tick comes gets none."
     pub none : driving motorNow ≡ false → (p : List ℕ) → length p ≡ 64 → countAt (l .tick tableNow p .pulses) c ≡ 0
     -- "Each channel's position is its last accepted preset, or zero, plus the CW pulses given since, less the CCW pulses."
     pub position : motorNow .place + travelNow .ccw ≡ travelNow .preset + travelNow .cw
+
+  -- the channel's settings and contacts are fresh's, and what accepted settings and readings made of them since
+  pub record Settled : Type 0 where
+    pub limits : motorNow .limits ≡ settingsNow .limits
+    pub speeds : motorNow .speeds ≡ settingsNow .speeds
+    pub wiring : motorNow .wiring ≡ settingsNow .wiring
+    pub setup : motorNow .setup ≡ settingsNow .setup
 
 -- "A drive to a target at distance D and speed v, with no stop, SPC or switch reading on its channel and D within room, ends at
 -- tick D·1000/v rounded up." A deed that disturbs it so:

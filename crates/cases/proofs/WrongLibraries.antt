@@ -1,0 +1,348 @@
+-- Libraries that document 01 says must not satisfy the promises, and the demand that refuses each: "a library that refuses all
+-- lines, or answers OK to all ..; a tick that does nothing ..; one that runs the first drive and feigns the rest ..; invented pulse
+-- counts or reply lengths"; three of the "Errors that look right"; and some that would keep to the sums and still be of no use. Each
+-- is ours with one call replaced, and is refused on one short sequence, by computing it. Assumes nothing.
+use Prim.Native.Nat.{ℕ, _+_, _*_, _-_, _≤_, _<_}
+use native.Mathlib.Omega.{arith}
+use mathlib.Core.Path.{_≡_, refl, sym, ap, _∙_}
+use mathlib.Core.List.{List, [], _∷_, _++_}
+use mathlib.Core.Bool.{Bool, true, false, _&&_, not, cond, false≢true}
+use lib.ListN.{length, replicate}
+use lib.Dec.{eqb}
+use Rattle.digits.specs.Bytes.{put}
+use Rattle.digits.specs.Words.{wordBytes, withBit, withoutBit}
+use Rattle.digits.specs.Places.{origin, cw}
+use Rattle.text.specs.Text.{bytes, same}
+use Rattle.record.specs.declared.Wiring.{Wiring}
+use Rattle.record.specs.declared.Motor.{Motor}
+use Rattle.record.specs.Record.{withWiring, withDrive}
+use Rattle.motor.specs.Sound.{driving}
+use Rattle.drive.specs.Drives.{stopped, contacted}
+use Rattle.line.specs.declared.Start.the-variants.{Scan}
+use Rattle.line.specs.declared.Setting.the-variants.{Preset}
+use Rattle.line.specs.declared.Order.the-variants.{Mode}
+use Rattle.line.specs.Forms.{ssend}
+use Rattle.table.specs.Layout.{tableSize, errors, withErrors, motorAt, withMotor, withMotors, freshTable}
+use Rattle.urqolina.specs.Calls.{CommandAfter, TickAfter, freshCall, commandCall, readingCall, tickCall}
+use Rattle.laws.specs.Sequences.{Library, Call, command, reading, tick, After}
+use Rattle.laws.specs.Deeds.{Deed, starts, stops, speeds, sets, reads, ticks, rests, deed}
+use Rattle.laws.specs.Ledger.{countAt, Account, Travel}
+use Rattle.laws.specs.Numbers.{Numbers}
+use Rattle.laws.specs.ReadBack.{ReadsBack}
+use Rattle.laws.specs.Pulses.{motorNow, accountNow, travelNow, settingsNow, Ends, byStop, bySwitch, byTarget, byRoom, Demand3, Settled}
+use Rattle.cases.proofs.LedgerCases.{lentTable, says, ticked, computing-demands}
+
+-- Demand 3 for every channel and every sequence, and read-back for every sequence and every read that is lent enough.
+abbrev pub AllDemand3 : Library → Type 0
+AllDemand3 l = (b : List ℕ) → length b ≡ tableSize → (c : ℕ) → c ≤ 15 → (ks : List Call) → Demand3 l b c ks
+
+abbrev pub AllReadsBack : Library → Type 0
+AllReadsBack l = (b : List ℕ) → length b ≡ tableSize → (ks : List Call) (k : Call) (later : List Call) (line reply : List ℕ)
+    (enough : 32 ≤ length reply) → ReadsBack l b ks k later line reply enough
+
+-- ours with another command, or another tick
+abbrev pub withCommand : (List ℕ → List ℕ → List ℕ → CommandAfter) → Library
+withCommand f = record { fresh = freshCall; command = f; reading = readingCall; tick = tickCall }
+
+abbrev pub withTick : (List ℕ → List ℕ → TickAfter) → Library
+withTick f = record { fresh = freshCall; command = commandCall; reading = readingCall; tick = f }
+
+-- Demand 3 refuses a library if one account of channel 0 shows more pulses than its speeds allow,
+too-many : (l : Library) (ks : List Call) (a : Account) → accountNow l lentTable 0 ks ≡ a → a .sum < 1000 * a .pulses → AllDemand3 l → ⊥
+too-many l ks a e more d =
+    let fact : 1000 * a .pulses ≤ a .sum = rw e at (d lentTable refl 0 (omega arith) ks .neverMore) in
+    absurd (omega (arith, fact, more))
+
+-- or, while the drive lasts, a thousand too few,
+too-few : (l : Library) (ks : List Call) (a : Account) → accountNow l lentTable 0 ks ≡ a → a .lasts ≡ true → 1000 * a .pulses + 1000 ≤ a .sum
+    → AllDemand3 l → ⊥
+too-few l ks a e lasts less d =
+    let fact : a .lasts ≡ true → a .sum < 1000 * a .pulses + 1000 = rw e at (d lentTable refl 0 (omega arith) ks .neverLess) in
+    absurd (omega (arith, fact lasts, less))
+
+-- or if its place p is not what its way j comes to.
+elsewhere : (l : Library) (ks : List Call) (j : Travel) (p : ℕ) → travelNow l lentTable 0 ks ≡ j → motorNow l lentTable 0 ks .place ≡ p
+    → (p + j .ccw ≡ j .preset + j .cw → ⊥) → AllDemand3 l → ⊥
+elsewhere l ks j p e f other d = other (rw (e, f) at (d lentTable refl 0 (omega arith) ks .position))
+
+-- "a library that refuses all lines": number 1 and its flag for each. The rules accept REM.
+abbrev pub refusesAll : Library
+refusesAll =
+    withCommand (λ t line reply. record { result = 1; table = withErrors t (withBit 0 (errors t)); reply = reply })
+
+pub refuses-all-refused : Numbers refusesAll → ⊥
+unfolding computing-demands
+refuses-all-refused n =
+    let fact : _≡_ {A = ℕ} 1 0 = n .accepts freshTable (bytes "REM") (replicate 32 0xaa) (Mode 1) refl refl in
+    absurd (omega (arith, fact))
+
+-- "or answers OK to all": X has no form, and 0 may not come.
+abbrev pub acceptsAll : Library
+acceptsAll = withCommand (λ t line reply. record { result = 0; table = t; reply = reply })
+
+pub accepts-all-refused : Numbers acceptsAll → ⊥
+unfolding computing-demands
+accepts-all-refused n = n .refuses freshTable (bytes "X") (replicate 32 0xaa) refl refl refl
+
+-- "a tick that does nothing (demand 3's lower bound)": two ticks at 800 pps, S = 1600, P = 0.
+abbrev pub idle : Library
+idle = withTick (λ t p. record { result = 0; table = t; pulses = replicate 64 0 })
+
+pub idle-refused : AllDemand3 idle → ⊥
+unfolding computing-demands
+idle-refused =
+    too-few idle (says "REM" ∷ says "SCANP0" ∷ ticked ∷ ticked ∷ [])
+    (record { lasts = true; going = cw; speed = 800; sum = 1600; pulses = 0 }) refl refl (omega arith)
+
+-- A tick that refuses every buffer leaves the zeros that it was lent, and is refused by the same.
+abbrev pub refusesTicks : Library
+refusesTicks = withTick (λ t p. record { result = 5; table = t; pulses = p })
+
+pub refuses-ticks-refused : AllDemand3 refusesTicks → ⊥
+unfolding computing-demands
+refuses-ticks-refused =
+    too-few refusesTicks (says "REM" ∷ says "SCANP0" ∷ tick (replicate 64 0) ∷ tick (replicate 64 0) ∷ [])
+    (record { lasts = true; going = cw; speed = 800; sum = 1600; pulses = 0 }) refl refl (omega arith)
+
+-- a deed is a start; it is a tick
+abbrev pub isStart : Deed → Bool
+isStart (starts s) = true
+isStart (stops flags) = false
+isStart (speeds v) = false
+isStart (sets s) = false
+isStart (reads n) = false
+isStart ticks = false
+isStart rests = false
+
+abbrev isTick : Deed → Bool
+isTick (starts s) = false
+isTick (stops flags) = false
+isTick (speeds v) = false
+isTick (sets s) = false
+isTick (reads n) = false
+isTick ticks = true
+isTick rests = false
+
+-- "one that runs the first drive and feigns the rest (demand 3, over any sequence)". The first drive is run: a jog by one pulse,
+-- given by its second tick.
+abbrev firstDrive : List Call
+firstDrive = says "REM" ∷ says "JOGP0" ∷ ticked ∷ ticked ∷ []
+
+-- Once channel 0 is away from position 0, its starts are answered OK and begin nothing.
+abbrev pub feignsStarts : Library
+feignsStarts =
+    withCommand
+    (λ t line reply.
+    cond (isStart (deed 0 t (command line reply)) && not (eqb (motorAt t 0 .place) origin))
+    (record { result = 0; table = t; reply = reply })
+    (commandCall t line reply))
+
+pub feigns-starts-refused : AllDemand3 feignsStarts → ⊥
+unfolding computing-demands
+feigns-starts-refused d =
+    let fact : false ≡ true = d lentTable refl 0 (omega arith) firstDrive .starting (says "SCANP0") (Scan cw) refl refl in
+    absurd (false≢true fact)
+
+-- Or a drive stands in the table and its ticks do nothing: S = 1600, P = 0 for the second drive.
+abbrev pub feignsTicks : Library
+feignsTicks =
+    withTick
+    (λ t p. cond (eqb (motorAt t 0 .place) origin) (tickCall t p) (record { result = 0; table = t; pulses = replicate 64 0 }))
+
+pub feigns-ticks-refused : AllDemand3 feignsTicks → ⊥
+unfolding computing-demands
+feigns-ticks-refused =
+    too-few feignsTicks (firstDrive ++ (says "SCANP0" ∷ ticked ∷ ticked ∷ []))
+    (record { lasts = true; going = cw; speed = 800; sum = 1600; pulses = 0 }) refl refl (omega arith)
+
+-- "invented pulse counts": channel 0 always gets a pulse in the buffer. The first tick at 800 pps has none, so P = 1, S = 800.
+abbrev pub inventsPulses : Library
+inventsPulses =
+    withTick (λ t p. let a = tickCall t p in record { result = a .result; table = a .table; pulses = put (a .pulses) 0 (1 ∷ []) })
+
+pub invents-pulses-refused : AllDemand3 inventsPulses → ⊥
+unfolding computing-demands
+invents-pulses-refused =
+    too-many inventsPulses (says "REM" ∷ says "SCANP0" ∷ ticked ∷ []) (record { lasts = true; going = cw; speed = 800; sum = 800; pulses = 1 }) refl
+    (omega arith)
+
+-- Counts of the right size and the wrong sign keep both bounds: "demand 3's position sum" refuses them. After two ticks the
+-- channel has moved one CW, and the buffers tell of one CCW.
+abbrev pub turnsCounts : Library
+turnsCounts =
+    withTick
+    (λ t p.
+    let a = tickCall t p in
+    record { result = a .result; table = a .table; pulses = put (a .pulses) 0 (wordBytes 4 (4294967296 - countAt (a .pulses) 0)) })
+
+pub turns-counts-refused : AllDemand3 turnsCounts → ⊥
+unfolding computing-demands
+turns-counts-refused =
+    elsewhere turnsCounts (says "REM" ∷ says "SCANP0" ∷ ticked ∷ ticked ∷ []) (record { preset = origin; cw = 0; ccw = 1 }) (origin + 1) refl
+    refl (λ e. absurd (omega (arith, e)))
+
+-- "or reply lengths (.. demand 2's bytes)": one more than was written. PS0+5, then PS?0: +0000005 has 8 bytes, and 9 are told.
+abbrev pub inventsLengths : Library
+inventsLengths =
+    withCommand
+    (λ t line reply.
+    let a = commandCall t line reply in
+    record { result = a .result + 256; table = a .table; reply = a .reply })
+
+pub invents-lengths-refused : AllReadsBack inventsLengths → ⊥
+unfolding computing-demands
+invents-lengths-refused r =
+    let read = r lentTable refl (says "REM" ∷ []) (says "PS0+5") [] (bytes "PS?0") (replicate 32 0xaa) (omega arith) in
+    let told = read .setting 0 (Preset (record { minus = false; digits = 5 })) refl refl refl in
+    let fact : _≡_ {A = ℕ} 2304 2048 = ap (λ (a : After). a .result) told in
+    absurd (omega (arith, fact))
+
+-- a driving motor with another fraction
+abbrev pub withFraction : ℕ → Motor → Motor
+withFraction n m =
+    cond (driving m)
+    (withDrive m (m .ended)
+    (record { going = m .drive .going; kind = m .drive .kind; fraction = n; speed = m .drive .speed; target = m .drive .target }))
+    m
+
+-- "Rounding the pulses of each tick: 800 pps becomes 0 or 1000." A tick that begins with half a pulse gives the nearest number of
+-- pulses, and one that begins with none the lower one, whatever the tick before it left.
+abbrev pub rounds : ℕ → Library
+rounds n = withTick (λ t p. tickCall (withMotors t (withFraction n)) p)
+
+pub rounds-to-nearest-refused : AllDemand3 (rounds 500) → ⊥
+unfolding computing-demands
+rounds-to-nearest-refused =
+    too-many (rounds 500) (says "REM" ∷ says "SCANP0" ∷ ticked ∷ []) (record { lasts = true; going = cw; speed = 800; sum = 800; pulses = 1 }) refl
+    (omega arith)
+
+pub rounds-down-refused : AllDemand3 (rounds 0) → ⊥
+unfolding computing-demands
+rounds-down-refused =
+    too-few (rounds 0) (says "REM" ∷ says "SCANP0" ∷ ticked ∷ ticked ∷ []) (record { lasts = true; going = cw; speed = 800; sum = 1600; pulses = 0 })
+    refl refl (omega arith)
+
+-- "Keeping the fraction over a stop, so the next drive's first pulse comes early": a start of channel 0 after an SSTP takes up the
+-- 800 that a tick at 800 pps left. The second drive then has P = 1 at S = 800.
+abbrev pub keepsFraction : Library
+keepsFraction =
+    withCommand
+    (λ t line reply.
+    let a = commandCall t line reply in
+    record {
+      result = a .result;
+      table = cond (isStart (deed 0 t (command line reply)) && eqb (motorAt t 0 .ended) ssend)
+          (withMotor (a .table) 0 (withFraction 800 (motorAt (a .table) 0)))
+          (a .table);
+      reply = a .reply;
+    })
+
+pub keeps-fraction-refused : AllDemand3 keepsFraction → ⊥
+unfolding computing-demands
+keeps-fraction-refused =
+    too-many keepsFraction (says "REM" ∷ says "SCANP0" ∷ ticked ∷ says "SSTP0" ∷ says "SCANP0" ∷ ticked ∷ [])
+    (record { lasts = true; going = cw; speed = 800; sum = 800; pulses = 1 }) refl (omega arith)
+
+-- A tick that ends every drive and gives no pulse breaks neither bound; but nothing ended the drive: no stop and no reading, a scan
+-- has no target, and there is room.
+abbrev pub endsDrives : Library
+endsDrives = withTick (λ t p. record { result = 0; table = withMotors t (stopped 0); pulses = replicate 64 0 })
+
+abbrev scanning : List Call
+scanning = says "REM" ∷ says "SCANP0" ∷ []
+
+nothing-ended : Ends endsDrives lentTable 0 scanning ticked → ⊥
+unfolding computing-demands
+nothing-ended (byStop flags e f) = absurd (false≢true (sym (ap isTick e)))
+nothing-ended (bySwitch n e h f) = absurd (false≢true (sym (ap isTick e)))
+nothing-ended (byTarget e h there f) = absurd (false≢true h)
+nothing-ended (byRoom e h f) =
+    let fact : _≡_ {A = ℕ} 2147483647 0 = h in
+    absurd (omega (arith, fact))
+
+pub ends-drives-refused : AllDemand3 endsDrives → ⊥
+unfolding computing-demands
+ends-drives-refused d = nothing-ended (d lentTable refl 0 (omega arith) scanning .ending ticked refl refl)
+
+-- A stop of channel 0 that is answered OK and stops nothing: "A stop ends the drive at once".
+abbrev pub isStop : Deed → Bool
+isStop (starts s) = false
+isStop (stops flags) = true
+isStop (speeds v) = false
+isStop (sets s) = false
+isStop (reads n) = false
+isStop ticks = false
+isStop rests = false
+
+abbrev pub deafToStops : Library
+deafToStops =
+    withCommand
+    (λ t line reply.
+    cond (isStop (deed 0 t (command line reply))) (record { result = 0; table = t; reply = reply }) (commandCall t line reply))
+
+pub deaf-to-stops-refused : AllDemand3 deafToStops → ⊥
+unfolding computing-demands
+deaf-to-stops-refused d =
+    let fact : true ≡ false = d lentTable refl 0 (omega arith) scanning .stopping (says "SSTP0") ssend refl in
+    absurd (false≢true (sym fact))
+
+-- SCANP0 that is taken for SCANN0: "P is CW". After a tick at 800 pps the next one gives a pulse against the drive.
+abbrev pub turnsScans : Library
+turnsScans =
+    withCommand (λ t line reply. commandCall t (cond (same line (bytes "SCANP0")) (bytes "SCANN0") line) reply)
+
+pub turns-scans-refused : AllDemand3 turnsScans → ⊥
+unfolding computing-demands
+turns-scans-refused d =
+    let fact : _≡_ {A = ℕ} 1 0 = d lentTable refl 0 (omega arith) (scanning ++ (ticked ∷ [])) .oneWay refl (replicate 64 0) refl in
+    absurd (omega (arith, fact))
+
+-- "Capping at the target but not at a digital limit inside the same tick; 5,000 pulses can fall in one": the counts are those that
+-- the motor would get with D = 0. With FL0+3 and D = 1 there is room for 3.
+abbrev pub withoutLimits : Motor → Motor
+withoutLimits m = withWiring m (record { setls = withoutBit 7 (m .wiring .setls); contacts = m .wiring .contacts })
+
+abbrev pub overshoots : Library
+overshoots =
+    withTick
+    (λ t p.
+    let a = tickCall t p in
+    record { result = a .result; table = a .table; pulses = tickCall (withMotors t withoutLimits) p .pulses })
+
+pub overshoots-refused : AllDemand3 overshoots → ⊥
+unfolding computing-demands
+overshoots-refused d =
+    let limited = says "REM" ∷ says "FL0+3" ∷ says "SETLS011110000" ∷ says "SPDM05000000" ∷ says "SCANP0" ∷ [] in
+    let fact : 5000 ≤ 3 = d lentTable refl 0 (omega arith) limited .within refl (replicate 64 0) refl .0 in
+    absurd (omega (arith, fact))
+
+-- Settings and contacts that change by themselves: a tick that closes the contacts of channel 0, so that the rules would refuse
+-- every later start, and a reading that is answered 0 and forgotten.
+abbrev pub AllSettled : Library → Type 0
+AllSettled l = (b : List ℕ) → length b ≡ tableSize → (c : ℕ) → c ≤ 15 → (ks : List Call) → Settled l b c ks
+
+contacts-other : (l : Library) (ks : List Call) (n : ℕ) → motorNow l lentTable 0 ks .wiring .contacts ≡ n
+    → (n ≡ settingsNow l lentTable 0 ks .wiring .contacts → ⊥) → AllSettled l → ⊥
+contacts-other l ks n e other d =
+    other (sym e ∙ ap (λ (w : Wiring). w .contacts) (d lentTable refl 0 (omega arith) ks .wiring))
+
+abbrev pub closesContacts : Library
+closesContacts =
+    withTick
+    (λ t p.
+    let a = tickCall t p in
+    record { result = a .result; table = withMotor (a .table) 0 (contacted (motorAt (a .table) 0) 7); pulses = a .pulses })
+
+pub closes-contacts-refused : AllSettled closesContacts → ⊥
+unfolding computing-demands
+closes-contacts-refused =
+    contacts-other closesContacts (ticked ∷ []) 7 refl (λ e. let fact : _≡_ {A = ℕ} 7 0 = e in absurd (omega (arith, fact)))
+
+abbrev pub deafToSwitches : Library
+deafToSwitches =
+    record { fresh = freshCall; command = commandCall; reading = λ t c n. record { result = 0; table = t }; tick = tickCall }
+
+pub deaf-to-switches-refused : AllSettled deafToSwitches → ⊥
+unfolding computing-demands
+deaf-to-switches-refused =
+    contacts-other deafToSwitches (reading 0 1 ∷ []) 0 refl (λ e. let fact : _≡_ {A = ℕ} 0 1 = e in absurd (omega (arith, fact)))
