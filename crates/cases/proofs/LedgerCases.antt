@@ -13,11 +13,11 @@ use Rattle.line.specs.declared.Start.the-variants.{Abs, Scan}
 use Rattle.line.specs.declared.Setting.the-variants.{Preset, SetCcwLimit, Select, SetSpeed, SetSwitches, SetMotor}
 use Rattle.line.specs.Forms.{mspd, hspd, ssend, esend}
 use Rattle.urqolina.specs.Calls.{freshCall}
-use Rattle.urqolina.specs.Computing.{computing-urqolina}
-use Rattle.laws.specs.Sequences.{Call, command, reading, tick, urqolina, after, run, ran, never}
-use Rattle.laws.specs.Deeds.{starts, stops, speeds, sets, reads, ticks, rests, orderTaken, deedOf, deed, ticksIn}
-use Rattle.laws.specs.Ledger.{countAt, cwPulses, ccwPulses, Account, noDrive, setsOff, wayOf, booked, entered, account, noTravel, moving, travel, settled, settings}
-use Rattle.laws.specs.ReadBack.{questionFor, textFor, topic, changedBy, changes, modeOrder, replyOrder, changesMode, changesReply}
+use Rattle.laws.specs.Computing.{computing-laws}
+use Rattle.laws.specs.Sequences.{Call, command, reading, tick, urqolina, ran, never}
+use Rattle.laws.specs.Deeds.{starts, stops, speeds, sets, reads, ticks, rests, deed, ticksIn}
+use Rattle.laws.specs.Ledger.{countAt, cwPulses, ccwPulses, Account, noDrive, noTravel, moving}
+use Rattle.laws.specs.ReadBack.{textFor, changedBy, changes, changesMode, changesReply}
 use Rattle.laws.specs.Pulses.{accountNow, travelNow, distance, lastTick}
 
 -- The bytes that a fresh call is made on, and calls with what they are lent: full of AAh, so that a byte left alone shows.
@@ -30,12 +30,6 @@ says s = command (bytes s) (replicate 32 0xaa)
 abbrev pub ticked : Call
 ticked = tick (replicate 64 0xaa)
 
--- To compute what the demands are stated with, a statement says `unfolding computing-demands`: it opens every definition that is
--- otherwise shut. It says nothing itself.
-unfoldable pub computing-demands : Unit {0}
-unfolding computing-urqolina after run never orderTaken deedOf deed ticksIn cwPulses ccwPulses setsOff wayOf booked entered account moving travel settled settings questionFor textFor topic changedBy changes modeOrder replyOrder
-computing-demands = tt
-
 -- The account of channel 0 after a sequence. Fresh has MSPD selected, 800 pps: from a start on, the pulses are the thousands in
 -- 800, 1600, 2400, .., so 0, 1, 1, 1, 1.
 abbrev accountAfter : List Call → Account
@@ -45,28 +39,28 @@ accountAfter ks = accountNow urqolina lentTable 0 ks
 scan-account :
     accountAfter (says "REM" ∷ says "SCANP0" ∷ ticked ∷ ticked ∷ ticked ∷ ticked ∷ ticked ∷ [])
     ≡ record { lasts = true; going = cw; speed = 800; sum = 4000; pulses = 4 }
-unfolding computing-demands
+unfolding computing-laws
 scan-account = refl
 
 -- SPC's speed is in force from the next tick on: S = 800 + 400, and the thousand in it is given, since SPC "keeps the fraction".
 speed-change-account :
     accountAfter (says "REM" ∷ says "SCANP0" ∷ ticked ∷ says "SPC0400" ∷ ticked ∷ [])
     ≡ record { lasts = true; going = cw; speed = 400; sum = 1200; pulses = 1 }
-unfolding computing-demands
+unfolding computing-laws
 speed-change-account = refl
 
 -- "A stop ends the drive at once": what its one tick added stays, 800 and no pulse.
 stop-account :
     accountAfter (says "REM" ∷ says "SCANP0" ∷ ticked ∷ says "SSTP0" ∷ [])
     ≡ record { lasts = false; going = cw; speed = 800; sum = 800; pulses = 0 }
-unfolding computing-demands
+unfolding computing-laws
 stop-account = refl
 
 -- A second start is a new drive: S and P begin anew.
 second-account :
     accountAfter (says "REM" ∷ says "SCANP0" ∷ ticked ∷ says "ESTP0" ∷ says "SCANN0" ∷ [])
     ≡ record { lasts = true; going = ccw; speed = 800; sum = 0; pulses = 0 }
-unfolding computing-demands
+unfolding computing-laws
 second-account = refl
 
 -- Marked case 3, "one tick, one pulse, stopped": 5,000 are due, the distance is 1, and the tick that ends the drive is one of its
@@ -74,16 +68,16 @@ second-account = refl
 target-account :
     accountAfter (says "REM" ∷ says "SPDM05000000" ∷ says "ABS0+1" ∷ ticked ∷ [])
     ≡ record { lasts = false; going = cw; speed = 5000000; sum = 5000000; pulses = 1 }
-unfolding computing-demands
+unfolding computing-laws
 target-account = refl
 
 -- No drive begins in local mode (4), nor with REL 0, which is "OK and change[s] nothing".
 local-account : accountAfter (says "SCANP0" ∷ ticked ∷ []) ≡ noDrive
-unfolding computing-demands
+unfolding computing-laws
 local-account = refl
 
 stay-account : accountAfter (says "REM" ∷ says "REL0+0" ∷ ticked ∷ []) ≡ noDrive
-unfolding computing-demands
+unfolding computing-laws
 stay-account = refl
 
 -- A pulse buffer of 63 bytes: "A refused tick (5 or 6) is no tick of any drive". It adds no speed, and the AAh that it was lent
@@ -91,14 +85,14 @@ stay-account = refl
 refused-tick-account :
     accountAfter (says "REM" ∷ says "SCANP0" ∷ tick (replicate 63 0xaa) ∷ [])
     ≡ record { lasts = true; going = cw; speed = 800; sum = 0; pulses = 0 }
-unfolding computing-demands
+unfolding computing-laws
 refused-tick-account = refl
 
 -- "sixteen signed 32-bit counts, CW positive": 3, and -2 as the word FFFFFFFEh, in the words of channels 0 and 1.
 counts-told :
     (cwPulses 3 ≡ 3) × (ccwPulses 3 ≡ 0) × (cwPulses 0xfffffffe ≡ 0) × (ccwPulses 0xfffffffe ≡ 2)
     × (map (countAt (3 ∷ 0 ∷ 0 ∷ 0 ∷ 0xfe ∷ 0xff ∷ 0xff ∷ 0xff ∷ [])) (0 ∷ 1 ∷ []) ≡ 3 ∷ 0xfffffffe ∷ [])
-unfolding computing-demands
+unfolding computing-laws
 counts-told = (refl, refl, refl, refl, refl)
 
 -- The way of channel 0. At 5,000,000 pps 5,000 pulses are due with each tick, so each of these targets is reached by one: +7 from
@@ -107,14 +101,14 @@ way :
     travelNow urqolina lentTable 0
     (says "REM" ∷ says "SPDM05000000" ∷ says "ABS0+7" ∷ ticked ∷ says "PS0+100" ∷ says "ABS0+98" ∷ ticked ∷ [])
     ≡ record { preset = origin + 100; cw = 0; ccw = 2 }
-unfolding computing-demands
+unfolding computing-laws
 way = refl
 
 -- A tick adds its CW pulses to those before it, and a start adds none.
 way-on :
     (moving 7 (record { preset = origin; cw = 5; ccw = 2 }) ticks ≡ record { preset = origin; cw = 12; ccw = 2 })
     × (moving 7 noTravel (starts (Scan cw)) ≡ noTravel)
-unfolding computing-demands
+unfolding computing-laws
 way-on = (refl, refl)
 
 -- Tables for deeds: fresh, in local mode; in remote mode; and with channel 0 driving.
@@ -138,14 +132,14 @@ minus n = record { minus = true; digits = n }
 local-deeds :
     map (deed 2 localTable) (says "SCANP2" ∷ says "ESTP2" ∷ says "SSTP3" ∷ says "ASSTP" ∷ says "REM" ∷ says "X" ∷ [])
     ≡ rests ∷ stops esend ∷ rests ∷ stops ssend ∷ rests ∷ rests ∷ []
-unfolding computing-demands localTable
+unfolding computing-laws localTable
 local-deeds = refl
 
 other-deeds :
     map (deed 2 localTable)
     (reading 2 7 ∷ reading 2 8 ∷ reading 3 7 ∷ ticked ∷ tick (replicate 63 0) ∷ command (bytes "ESTP2") (replicate 31 0) ∷ [])
     ≡ reads 7 ∷ rests ∷ rests ∷ ticks ∷ rests ∷ rests ∷ []
-unfolding computing-demands localTable
+unfolding computing-laws localTable
 other-deeds = refl
 
 -- Remote mode: starts and settings are taken; not with a value outside its range (3), nor SPC on a stopped motor (4). A read is
@@ -153,13 +147,13 @@ other-deeds = refl
 remote-deeds :
     map (deed 0 remoteTable) (says "SCANP0" ∷ says "ABS0-5" ∷ says "SCANP1" ∷ says "PS0+2147483648" ∷ says "SPC0400" ∷ says "PS?0" ∷ [])
     ≡ starts (Scan cw) ∷ starts (Abs (minus 5)) ∷ rests ∷ rests ∷ rests ∷ rests ∷ []
-unfolding computing-demands remoteTable
+unfolding computing-laws remoteTable
 remote-deeds = refl
 
 -- On a driving channel a start or a setting is refused (2), and SPC is taken.
 driving-deeds :
     map (deed 0 drivingTable) (says "SCANP0" ∷ says "PS0+5" ∷ says "SPC0400" ∷ []) ≡ rests ∷ rests ∷ speeds 400 ∷ []
-unfolding computing-demands drivingTable
+unfolding computing-laws drivingTable
 driving-deeds = refl
 
 -- Read-back: "a sign (+ for 0) and at least 7 digits; speeds, at least 6; `SPD?` HSPD, MSPD or LSPD"; "-0 is 0".
@@ -169,7 +163,7 @@ texts :
     ∷ SetSwitches (record { a = 1; b = 1; c = 0; d = 1 }) (record { a = 0; b = 1; c = 0; d = 1 })
     ∷ SetMotor (record { a = 1; b = 0; c = 0; d = 2 }) ∷ [])
     ≡ bytes "+0000005" ∷ bytes "-12345678" ∷ bytes "+0000000" ∷ bytes "000800" ∷ bytes "HSPD" ∷ bytes "11010101" ∷ bytes "1002" ∷ []
-unfolding computing-demands
+unfolding computing-laws
 texts = refl
 
 -- The preset of channel 0 is changed by another one of that channel; not by that of channel 1, by a limit, by one that is refused
@@ -178,26 +172,26 @@ presets-kept :
     map (changes urqolina 0 (Preset (plus 5)) remoteTable)
     (says "PS0+7" ∷ says "PS1+7" ∷ says "FL0+7" ∷ says "PS0+9999999999" ∷ says "SCANP0" ∷ [])
     ≡ true ∷ false ∷ false ∷ false ∷ false ∷ []
-unfolding computing-demands remoteTable
+unfolding computing-laws remoteTable
 presets-kept = refl
 
 -- Nor by a tick that gives no pulse; but of two ticks at 800 pps the second gives one. No other setting is changed by a tick, and
 -- MSPD not by an HSPD.
 preset-till-moved : never urqolina (changes urqolina 0 (Preset (plus 5))) drivingTable (ticked ∷ ticked ∷ []) ≡ false
-unfolding computing-demands drivingTable
+unfolding computing-laws drivingTable
 preset-till-moved = refl
 
 changed-by :
     (changedBy (Preset (plus 5)) 0 ticks ≡ false) × (changedBy (SetSpeed mspd 800) 1 ticks ≡ false)
     × (changedBy (SetSpeed mspd 800) 0 (sets (SetSpeed hspd 800)) ≡ false) × (changedBy (SetSpeed mspd 800) 0 (sets (SetSpeed mspd 400)) ≡ true)
-unfolding computing-demands
+unfolding computing-laws
 changed-by = (refl, refl, refl, refl)
 
 -- The mode is changed by an accepted LOC or REM, in both modes; all-reply by an accepted ALL_REP EN or DS, in remote mode only.
 head-changes :
     (map (changesMode localTable) (says "REM" ∷ says "LOC" ∷ says "LOCX" ∷ says "ASSTP" ∷ []) ≡ true ∷ true ∷ false ∷ false ∷ [])
     × (changesReply localTable (says "ALL_REP EN") ≡ false) × (changesReply remoteTable (says "ALL_REP EN") ≡ true)
-unfolding computing-demands localTable remoteTable
+unfolding computing-laws localTable remoteTable
 head-changes = (refl, refl, refl)
 
 -- "ends at tick D·1000/v rounded up": ABS0-3 from position 0 at 800 pps is 3 pulses away, 3.75 ticks, so the fourth. A refused
@@ -206,5 +200,5 @@ last-tick :
     (distance urqolina lentTable 0 [] (says "ABS0-3") (origin - 3) [] ≡ 3)
     × (lastTick urqolina lentTable 0 [] (says "ABS0-3") (origin - 3) [] ≡ 4)
     × (ticksIn (ticked ∷ says "PS?0" ∷ tick [] ∷ ticked ∷ reading 0 0 ∷ []) ≡ 2)
-unfolding computing-demands
+unfolding computing-laws
 last-tick = (refl, refl, refl)

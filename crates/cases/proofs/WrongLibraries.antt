@@ -24,13 +24,14 @@ use Rattle.line.specs.declared.Order.the-variants.{Mode}
 use Rattle.line.specs.Forms.{ssend}
 use Rattle.table.specs.Layout.{tableSize, errors, withErrors, motorAt, withMotor, withMotors, freshTable}
 use Rattle.urqolina.specs.Calls.{CommandAfter, TickAfter, freshCall, commandCall, readingCall, tickCall}
+use Rattle.laws.specs.Computing.{computing-laws}
 use Rattle.laws.specs.Sequences.{Library, Call, command, reading, tick, After}
 use Rattle.laws.specs.Deeds.{Deed, starts, stops, speeds, sets, reads, ticks, rests, deed}
 use Rattle.laws.specs.Ledger.{countAt, Account, Travel}
 use Rattle.laws.specs.Numbers.{Numbers}
 use Rattle.laws.specs.ReadBack.{ReadsBack}
 use Rattle.laws.specs.Pulses.{motorNow, accountNow, travelNow, settingsNow, Ends, byStop, bySwitch, byTarget, byRoom, Demand3, Settled}
-use Rattle.cases.proofs.LedgerCases.{lentTable, says, ticked, computing-demands}
+use Rattle.cases.proofs.LedgerCases.{lentTable, says, ticked}
 
 -- Demand 3 for every channel and every sequence, and read-back for every sequence and every read that is lent enough.
 abbrev pub AllDemand3 : Library → Type 0
@@ -71,7 +72,7 @@ refusesAll =
     withCommand (λ t line reply. record { result = 1; table = withErrors t (withBit 0 (errors t)); reply = reply })
 
 pub refuses-all-refused : Numbers refusesAll → ⊥
-unfolding computing-demands
+unfolding computing-laws
 refuses-all-refused n =
     let fact : _≡_ {A = ℕ} 1 0 = n .accepts freshTable (bytes "REM") (replicate 32 0xaa) (Mode 1) refl refl in
     absurd (omega (arith, fact))
@@ -81,7 +82,7 @@ abbrev pub acceptsAll : Library
 acceptsAll = withCommand (λ t line reply. record { result = 0; table = t; reply = reply })
 
 pub accepts-all-refused : Numbers acceptsAll → ⊥
-unfolding computing-demands
+unfolding computing-laws
 accepts-all-refused n = n .refuses freshTable (bytes "X") (replicate 32 0xaa) refl refl refl
 
 -- "a tick that does nothing (demand 3's lower bound)": two ticks at 800 pps, S = 1600, P = 0.
@@ -89,7 +90,7 @@ abbrev pub idle : Library
 idle = withTick (λ t p. record { result = 0; table = t; pulses = replicate 64 0 })
 
 pub idle-refused : AllDemand3 idle → ⊥
-unfolding computing-demands
+unfolding computing-laws
 idle-refused =
     too-few idle (says "REM" ∷ says "SCANP0" ∷ ticked ∷ ticked ∷ [])
     (record { lasts = true; going = cw; speed = 800; sum = 1600; pulses = 0 }) refl refl (omega arith)
@@ -99,7 +100,7 @@ abbrev pub refusesTicks : Library
 refusesTicks = withTick (λ t p. record { result = 5; table = t; pulses = p })
 
 pub refuses-ticks-refused : AllDemand3 refusesTicks → ⊥
-unfolding computing-demands
+unfolding computing-laws
 refuses-ticks-refused =
     too-few refusesTicks (says "REM" ∷ says "SCANP0" ∷ tick (replicate 64 0) ∷ tick (replicate 64 0) ∷ [])
     (record { lasts = true; going = cw; speed = 800; sum = 1600; pulses = 0 }) refl refl (omega arith)
@@ -138,7 +139,7 @@ feignsStarts =
     (commandCall t line reply))
 
 pub feigns-starts-refused : AllDemand3 feignsStarts → ⊥
-unfolding computing-demands
+unfolding computing-laws
 feigns-starts-refused d =
     let fact : false ≡ true = d lentTable refl 0 (omega arith) firstDrive .starting (says "SCANP0") (Scan cw) refl refl in
     absurd (false≢true fact)
@@ -150,7 +151,7 @@ feignsTicks =
     (λ t p. cond (eqb (motorAt t 0 .place) origin) (tickCall t p) (record { result = 0; table = t; pulses = replicate 64 0 }))
 
 pub feigns-ticks-refused : AllDemand3 feignsTicks → ⊥
-unfolding computing-demands
+unfolding computing-laws
 feigns-ticks-refused =
     too-few feignsTicks (firstDrive ++ (says "SCANP0" ∷ ticked ∷ ticked ∷ []))
     (record { lasts = true; going = cw; speed = 800; sum = 1600; pulses = 0 }) refl refl (omega arith)
@@ -161,7 +162,7 @@ inventsPulses =
     withTick (λ t p. let a = tickCall t p in record { result = a .result; table = a .table; pulses = put (a .pulses) 0 (1 ∷ []) })
 
 pub invents-pulses-refused : AllDemand3 inventsPulses → ⊥
-unfolding computing-demands
+unfolding computing-laws
 invents-pulses-refused =
     too-many inventsPulses (says "REM" ∷ says "SCANP0" ∷ ticked ∷ []) (record { lasts = true; going = cw; speed = 800; sum = 800; pulses = 1 }) refl
     (omega arith)
@@ -176,7 +177,7 @@ turnsCounts =
     record { result = a .result; table = a .table; pulses = put (a .pulses) 0 (wordBytes 4 (4294967296 - countAt (a .pulses) 0)) })
 
 pub turns-counts-refused : AllDemand3 turnsCounts → ⊥
-unfolding computing-demands
+unfolding computing-laws
 turns-counts-refused =
     elsewhere turnsCounts (says "REM" ∷ says "SCANP0" ∷ ticked ∷ ticked ∷ []) (record { preset = origin; cw = 0; ccw = 1 }) (origin + 1) refl
     refl (λ e. absurd (omega (arith, e)))
@@ -190,7 +191,7 @@ inventsLengths =
     record { result = a .result + 256; table = a .table; reply = a .reply })
 
 pub invents-lengths-refused : AllReadsBack inventsLengths → ⊥
-unfolding computing-demands
+unfolding computing-laws
 invents-lengths-refused r =
     let read = r lentTable refl (says "REM" ∷ []) (says "PS0+5") [] (bytes "PS?0") (replicate 32 0xaa) (omega arith) in
     let told = read .setting 0 (Preset (record { minus = false; digits = 5 })) refl refl refl in
@@ -211,13 +212,13 @@ abbrev pub rounds : ℕ → Library
 rounds n = withTick (λ t p. tickCall (withMotors t (withFraction n)) p)
 
 pub rounds-to-nearest-refused : AllDemand3 (rounds 500) → ⊥
-unfolding computing-demands
+unfolding computing-laws
 rounds-to-nearest-refused =
     too-many (rounds 500) (says "REM" ∷ says "SCANP0" ∷ ticked ∷ []) (record { lasts = true; going = cw; speed = 800; sum = 800; pulses = 1 }) refl
     (omega arith)
 
 pub rounds-down-refused : AllDemand3 (rounds 0) → ⊥
-unfolding computing-demands
+unfolding computing-laws
 rounds-down-refused =
     too-few (rounds 0) (says "REM" ∷ says "SCANP0" ∷ ticked ∷ ticked ∷ []) (record { lasts = true; going = cw; speed = 800; sum = 1600; pulses = 0 })
     refl refl (omega arith)
@@ -238,7 +239,7 @@ keepsFraction =
     })
 
 pub keeps-fraction-refused : AllDemand3 keepsFraction → ⊥
-unfolding computing-demands
+unfolding computing-laws
 keeps-fraction-refused =
     too-many keepsFraction (says "REM" ∷ says "SCANP0" ∷ ticked ∷ says "SSTP0" ∷ says "SCANP0" ∷ ticked ∷ [])
     (record { lasts = true; going = cw; speed = 800; sum = 800; pulses = 1 }) refl (omega arith)
@@ -252,7 +253,7 @@ abbrev scanning : List Call
 scanning = says "REM" ∷ says "SCANP0" ∷ []
 
 nothing-ended : Ends endsDrives lentTable 0 scanning ticked → ⊥
-unfolding computing-demands
+unfolding computing-laws
 nothing-ended (byStop flags e f) = absurd (false≢true (sym (ap isTick e)))
 nothing-ended (bySwitch n e h f) = absurd (false≢true (sym (ap isTick e)))
 nothing-ended (byTarget e h there f) = absurd (false≢true h)
@@ -261,7 +262,7 @@ nothing-ended (byRoom e h f) =
     absurd (omega (arith, fact))
 
 pub ends-drives-refused : AllDemand3 endsDrives → ⊥
-unfolding computing-demands
+unfolding computing-laws
 ends-drives-refused d = nothing-ended (d lentTable refl 0 (omega arith) scanning .ending ticked refl refl)
 
 -- A stop of channel 0 that is answered OK and stops nothing: "A stop ends the drive at once".
@@ -281,7 +282,7 @@ deafToStops =
     cond (isStop (deed 0 t (command line reply))) (record { result = 0; table = t; reply = reply }) (commandCall t line reply))
 
 pub deaf-to-stops-refused : AllDemand3 deafToStops → ⊥
-unfolding computing-demands
+unfolding computing-laws
 deaf-to-stops-refused d =
     let fact : true ≡ false = d lentTable refl 0 (omega arith) scanning .stopping (says "SSTP0") ssend refl in
     absurd (false≢true (sym fact))
@@ -292,7 +293,7 @@ turnsScans =
     withCommand (λ t line reply. commandCall t (cond (same line (bytes "SCANP0")) (bytes "SCANN0") line) reply)
 
 pub turns-scans-refused : AllDemand3 turnsScans → ⊥
-unfolding computing-demands
+unfolding computing-laws
 turns-scans-refused d =
     let fact : _≡_ {A = ℕ} 1 0 = d lentTable refl 0 (omega arith) (scanning ++ (ticked ∷ [])) .oneWay refl (replicate 64 0) refl in
     absurd (omega (arith, fact))
@@ -310,7 +311,7 @@ overshoots =
     record { result = a .result; table = a .table; pulses = tickCall (withMotors t withoutLimits) p .pulses })
 
 pub overshoots-refused : AllDemand3 overshoots → ⊥
-unfolding computing-demands
+unfolding computing-laws
 overshoots-refused d =
     let limited = says "REM" ∷ says "FL0+3" ∷ says "SETLS011110000" ∷ says "SPDM05000000" ∷ says "SCANP0" ∷ [] in
     let fact : 5000 ≤ 3 = d lentTable refl 0 (omega arith) limited .within refl (replicate 64 0) refl .0 in
@@ -334,7 +335,7 @@ closesContacts =
     record { result = a .result; table = withMotor (a .table) 0 (contacted (motorAt (a .table) 0) 7); pulses = a .pulses })
 
 pub closes-contacts-refused : AllSettled closesContacts → ⊥
-unfolding computing-demands
+unfolding computing-laws
 closes-contacts-refused =
     contacts-other closesContacts (ticked ∷ []) 7 refl (λ e. let fact : _≡_ {A = ℕ} 7 0 = e in absurd (omega (arith, fact)))
 
@@ -343,6 +344,6 @@ deafToSwitches =
     record { fresh = freshCall; command = commandCall; reading = λ t c n. record { result = 0; table = t }; tick = tickCall }
 
 pub deaf-to-switches-refused : AllSettled deafToSwitches → ⊥
-unfolding computing-demands
+unfolding computing-laws
 deaf-to-switches-refused =
     contacts-other deafToSwitches (reading 0 1 ∷ []) 0 refl (λ e. let fact : _≡_ {A = ℕ} 0 1 = e in absurd (omega (arith, fact)))

@@ -6,3 +6,4 @@ pub mod Neighbours
 pub mod ReadBack
 pub mod Pulses
 pub mod Demands
+pub mod Computing
