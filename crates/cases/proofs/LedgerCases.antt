@@ -4,21 +4,25 @@ use Prim.Native.Nat.{ℕ, _+_, _-_}
 use Prim.Native.String as S
 use mathlib.Core.Path.{_≡_, refl}
 use mathlib.Core.List.{List, [], _∷_, map}
-use mathlib.Core.Bool.{true, false}
+use mathlib.Core.Bool.{Bool, true, false}
 use lib.ListN.{replicate}
 use Rattle.digits.specs.Places.{origin, cw, ccw}
 use Rattle.text.specs.Text.{bytes}
 use Rattle.line.specs.declared.Written.{Written}
+use Rattle.line.specs.declared.Four.{Four}
 use Rattle.line.specs.declared.Start.the-variants.{Abs, Scan}
-use Rattle.line.specs.declared.Setting.the-variants.{Preset, SetCcwLimit, Select, SetSpeed, SetSwitches, SetMotor}
-use Rattle.line.specs.Forms.{mspd, hspd, ssend, esend}
+use Rattle.line.specs.declared.Setting.the-variants.{Preset, SetCwLimit, SetCcwLimit, Select, SetSpeed, SetSwitches, SetMotor}
+use Rattle.line.specs.Forms.{lspd, mspd, hspd, ssend, esend, orderOf}
+use Rattle.line.specs.declared.Order.{Order}
 use Rattle.urqolina.specs.Calls.{freshCall}
 use Rattle.laws.specs.Computing.{computing-laws}
 use Rattle.laws.specs.Sequences.{Call, command, reading, tick, urqolina, ran, never}
-use Rattle.laws.specs.Deeds.{starts, stops, speeds, sets, reads, ticks, rests, deed, ticksIn}
+use Rattle.laws.specs.Deeds.{names, starts, stops, speeds, sets, reads, ticks, rests, deedTaken, deed, ticksIn}
 use Rattle.laws.specs.Ledger.{countAt, cwPulses, ccwPulses, Account, noDrive, noTravel, moving}
-use Rattle.laws.specs.ReadBack.{textFor, changedBy, changes, changesMode, changesReply}
-use Rattle.laws.specs.Pulses.{accountNow, travelNow, distance, lastTick}
+use Rattle.laws.specs.Numbers.{asks}
+use Rattle.laws.specs.Neighbours.{ofHead}
+use Rattle.laws.specs.ReadBack.{textFor, topic, changedBy, changes, modeOrder, replyOrder, isSome, changesMode, changesReply}
+use Rattle.laws.specs.Pulses.{accountNow, travelNow, settingsNow, disturbs, distance, lastTick}
 
 -- The bytes that a fresh call is made on, and calls with what they are lent: full of AAh, so that a byte left alone shows.
 abbrev pub lentTable : List ℕ
@@ -124,6 +128,9 @@ drivingTable = ran urqolina lentTable (says "REM" ∷ says "SCANP0" ∷ [])
 abbrev plus : ℕ → Written
 plus n = record { minus = false; digits = n }
 
+abbrev noDigits : Four
+noDigits = record { a = 0; b = 0; c = 0; d = 0 }
+
 abbrev minus : ℕ → Written
 minus n = record { minus = true; digits = n }
 
@@ -202,3 +209,54 @@ last-tick :
     × (ticksIn (ticked ∷ says "PS?0" ∷ tick [] ∷ ticked ∷ reading 0 0 ∷ []) ≡ 2)
 unfolding computing-laws
 last-tick = (refl, refl, refl)
+
+-- Orders of each kind, and a line that is none: what is a read, what is of the head, what changes the mode or all-reply, what names
+-- channel 0, and what it is to channel 0.
+abbrev kinds : List (List ℕ)
+kinds =
+    map bytes
+    ("SCANP0" ∷ "SSTP0" ∷ "ASSTP" ∷ "SPC0400" ∷ "SPDM0" ∷ "PS?0" ∷ "LOC" ∷ "ALL_REP DS" ∷ "ERRF?" ∷ "ERRC" ∷ "ERRC1" ∷ "SCANP" ∷ [])
+
+abbrev ofKind : (Order → Bool) → List Bool
+ofKind test = map (λ s. isSome test (orderOf s)) kinds
+
+each-kind :
+    (ofKind asks ≡ false ∷ false ∷ false ∷ false ∷ false ∷ true ∷ false ∷ false ∷ true ∷ false ∷ false ∷ false ∷ [])
+    × (ofKind ofHead ≡ false ∷ false ∷ false ∷ false ∷ false ∷ false ∷ true ∷ true ∷ false ∷ true ∷ true ∷ false ∷ [])
+    × (ofKind modeOrder ≡ false ∷ false ∷ false ∷ false ∷ false ∷ false ∷ true ∷ false ∷ false ∷ false ∷ false ∷ false ∷ [])
+    × (ofKind replyOrder ≡ false ∷ false ∷ false ∷ false ∷ false ∷ false ∷ false ∷ true ∷ false ∷ false ∷ false ∷ false ∷ [])
+    × (ofKind (names 0) ≡ true ∷ true ∷ false ∷ true ∷ true ∷ true ∷ false ∷ false ∷ false ∷ false ∷ false ∷ false ∷ [])
+    × (ofKind (names 1) ≡ replicate 12 false)
+unfolding computing-laws
+each-kind = (refl, refl, refl, refl, refl, refl)
+
+deeds-of-kinds :
+    map (λ s. deedTaken 0 (orderOf s)) kinds
+    ≡ starts (Scan cw) ∷ stops ssend ∷ stops ssend ∷ speeds 400 ∷ sets (Select mspd) ∷ rests ∷ rests ∷ rests ∷ rests ∷ rests ∷ rests ∷ rests
+    ∷ []
+unfolding computing-laws
+deeds-of-kinds = refl
+
+-- "with no stop, SPC or switch reading on its channel".
+disturbing :
+    map disturbs (starts (Scan cw) ∷ stops ssend ∷ speeds 400 ∷ sets (Select mspd) ∷ reads 0 ∷ ticks ∷ rests ∷ [])
+    ≡ false ∷ true ∷ true ∷ false ∷ true ∷ false ∷ false ∷ []
+unfolding computing-laws
+disturbing = refl
+
+-- No topic is another's, and each of the three speeds has its own.
+topics :
+    map topic
+    (Preset (plus 1) ∷ SetCwLimit (plus 1) ∷ SetCcwLimit (plus 1) ∷ Select 0 ∷ SetSwitches noDigits noDigits ∷ SetMotor noDigits ∷ SetSpeed lspd 5
+    ∷ SetSpeed mspd 5 ∷ SetSpeed hspd 5 ∷ [])
+    ≡ 0 ∷ 1 ∷ 2 ∷ 3 ∷ 4 ∷ 5 ∷ 6 ∷ 7 ∷ 8 ∷ []
+unfolding computing-laws
+topics = refl
+
+-- Settings since fresh: SPDH0 selects, a reading replaces the contacts, a start that is refused (SCANP0 in local mode) does nothing.
+settings-made :
+    (settingsNow urqolina lentTable 0 (says "REM" ∷ says "SPDH0" ∷ reading 0 5 ∷ reading 1 7 ∷ []) .speeds .selected ≡ hspd)
+    × (settingsNow urqolina lentTable 0 (says "SPDH0" ∷ reading 0 5 ∷ reading 1 7 ∷ []) .speeds .selected ≡ mspd)
+    × (settingsNow urqolina lentTable 0 (reading 0 5 ∷ reading 1 7 ∷ ticked ∷ []) .wiring .contacts ≡ 5)
+unfolding computing-laws
+settings-made = (refl, refl, refl)

@@ -2,13 +2,14 @@
 -- lines, or answers OK to all ..; a tick that does nothing ..; one that runs the first drive and feigns the rest ..; invented pulse
 -- counts or reply lengths"; three of the "Errors that look right"; and some that would keep to the sums and still be of no use. Each
 -- is ours with one call replaced, and is refused on one short sequence, by computing it. Assumes nothing.
+use Prim.Native.Char.{code}
 use Prim.Native.Nat.{ℕ, _+_, _*_, _-_, _≤_, _<_}
 use native.Mathlib.Omega.{arith}
 use mathlib.Core.Path.{_≡_, refl, sym, ap, _∙_}
 use mathlib.Core.List.{List, [], _∷_, _++_}
 use mathlib.Core.Bool.{Bool, true, false, _&&_, not, cond, false≢true}
-use lib.ListN.{length, replicate}
-use lib.Dec.{eqb}
+use lib.ListN.{length, replicate, getD}
+use lib.Dec.{eqb, leb}
 use Rattle.digits.specs.Bytes.{put}
 use Rattle.digits.specs.Words.{wordBytes, withBit, withoutBit}
 use Rattle.digits.specs.Places.{origin, cw}
@@ -19,16 +20,18 @@ use Rattle.record.specs.Record.{withWiring, withDrive}
 use Rattle.motor.specs.Sound.{driving}
 use Rattle.drive.specs.Drives.{stopped, contacted}
 use Rattle.line.specs.declared.Start.the-variants.{Scan}
-use Rattle.line.specs.declared.Setting.the-variants.{Preset}
-use Rattle.line.specs.declared.Order.the-variants.{Mode}
+use Rattle.line.specs.declared.Setting.the-variants.{Preset, SetCwLimit}
+use Rattle.line.specs.declared.Order.the-variants.{Stop, Mode}
 use Rattle.line.specs.Forms.{ssend}
-use Rattle.table.specs.Layout.{tableSize, errors, withErrors, motorAt, withMotor, withMotors, freshTable}
+use Rattle.table.specs.Layout.{tableSize, errors, withErrors, withAllReply, motorAt, withMotor, withMotors, freshTable}
+use Rattle.table.specs.Sound.{soundTable}
 use Rattle.urqolina.specs.Calls.{CommandAfter, TickAfter, freshCall, commandCall, readingCall, tickCall}
 use Rattle.laws.specs.Computing.{computing-laws}
 use Rattle.laws.specs.Sequences.{Library, Call, command, reading, tick, After}
 use Rattle.laws.specs.Deeds.{Deed, starts, stops, speeds, sets, reads, ticks, rests, deed}
 use Rattle.laws.specs.Ledger.{countAt, Account, Travel}
-use Rattle.laws.specs.Numbers.{Numbers}
+use Rattle.laws.specs.Numbers.{Numbers, Replies}
+use Rattle.laws.specs.Neighbours.{Neighbours}
 use Rattle.laws.specs.ReadBack.{ReadsBack}
 use Rattle.laws.specs.Pulses.{motorNow, accountNow, travelNow, settingsNow, Ends, byStop, bySwitch, byTarget, byRoom, Demand3, Settled}
 use Rattle.cases.proofs.LedgerCases.{lentTable, says, ticked}
@@ -124,6 +127,19 @@ isTick (reads n) = false
 isTick ticks = true
 isTick rests = false
 
+-- A drive that stands still at +1 while its ticks come, at 1000 pps: with the second tick S = 2000 is a thousand above 1000 · P, and
+-- has to be less.
+abbrev pub sticks : Library
+sticks =
+    withTick
+    (λ t p. cond (eqb (motorAt t 0 .place) (origin + 1)) (record { result = 0; table = t; pulses = replicate 64 0 }) (tickCall t p))
+
+pub sticks-refused : AllDemand3 sticks → ⊥
+unfolding computing-laws
+sticks-refused =
+    too-few sticks (says "REM" ∷ says "SPDH0" ∷ says "SCANP0" ∷ ticked ∷ ticked ∷ [])
+    (record { lasts = true; going = cw; speed = 1000; sum = 2000; pulses = 1 }) refl refl (omega arith)
+
 -- "one that runs the first drive and feigns the rest (demand 3, over any sequence)". The first drive is run: a jog by one pulse,
 -- given by its second tick.
 abbrev firstDrive : List Call
@@ -216,6 +232,13 @@ unfolding computing-laws
 rounds-to-nearest-refused =
     too-many (rounds 500) (says "REM" ∷ says "SCANP0" ∷ ticked ∷ []) (record { lasts = true; going = cw; speed = 800; sum = 800; pulses = 1 }) refl
     (omega arith)
+
+-- At 999 pps the nearest is a pulse that comes a thousandth early.
+pub rounds-up-refused : AllDemand3 (rounds 500) → ⊥
+unfolding computing-laws
+rounds-up-refused =
+    too-many (rounds 500) (says "REM" ∷ says "SPDM0999" ∷ says "SCANP0" ∷ ticked ∷ [])
+    (record { lasts = true; going = cw; speed = 999; sum = 999; pulses = 1 }) refl (omega arith)
 
 pub rounds-down-refused : AllDemand3 (rounds 0) → ⊥
 unfolding computing-laws
@@ -347,3 +370,86 @@ pub deaf-to-switches-refused : AllSettled deafToSwitches → ⊥
 unfolding computing-laws
 deaf-to-switches-refused =
     contacts-other deafToSwitches (reading 0 1 ∷ []) 0 refl (λ e. let fact : _≡_ {A = ℕ} 0 1 = e in absurd (omega (arith, fact)))
+
+-- Refusals that are not what they should be: a command that writes to a reply buffer of 31 bytes and gives 5, one that makes a table
+-- that is not sound fresh and gives 6, and one that sets the next number's flag.
+abbrev pub scribbles : Library
+scribbles =
+    withCommand
+    (λ t line reply. cond (leb 32 (length reply)) (commandCall t line reply) (record { result = 5; table = t; reply = replicate 31 0 }))
+
+pub scribbles-refused : Numbers scribbles → ⊥
+unfolding computing-laws
+scribbles-refused n =
+    let left = n .sizes freshTable (command (bytes "REM") (replicate 31 0xaa)) refl in
+    let fact : _≡_ {A = ℕ} 0 0xaa = ap (λ (a : After). getD (a .buffer) 0 0) left in
+    absurd (omega (arith, fact))
+
+abbrev pub repairs : Library
+repairs =
+    withCommand
+    (λ t line reply. cond (soundTable t) (commandCall t line reply) (record { result = 6; table = freshTable; reply = reply }))
+
+pub repairs-refused : Numbers repairs → ⊥
+unfolding computing-laws
+repairs-refused n =
+    let left = n .unsound (replicate 1088 0xaa) (command (bytes "REM") (replicate 32 0)) refl refl in
+    let fact : _≡_ {A = ℕ} 0 0xaa = ap (λ (a : After). getD (a .table) 0 0) left in
+    absurd (omega (arith, fact))
+
+abbrev pub flagsNext : Library
+flagsNext =
+    withCommand
+    (λ t line reply.
+    let a = commandCall t line reply in
+    record { result = a .result; table = cond (eqb (a .result) 1) (withErrors t (withBit 1 (errors t))) (a .table); reply = a .reply })
+
+pub flags-next-refused : Numbers flagsNext → ⊥
+unfolding computing-laws
+flags-next-refused n =
+    let left = n .flags freshTable (bytes "X") (replicate 32 0) 1 (omega arith) (omega arith) refl in
+    let fact : _≡_ {A = ℕ} 2 1 = ap (λ (t : List ℕ). getD t 2 0) left in
+    absurd (omega (arith, fact))
+
+-- A command that reaches its neighbour: whatever names channel 0 sets a byte of channel 1's record.
+abbrev pub reachesNeighbour : Library
+reachesNeighbour =
+    withCommand
+    (λ t line reply.
+    let a = commandCall t line reply in
+    record { result = a .result; table = put (a .table) 128 (7 ∷ []); reply = a .reply })
+
+pub reaches-neighbour-refused : Neighbours reachesNeighbour → ⊥
+unfolding computing-laws
+reaches-neighbour-refused n =
+    let left = n .others freshTable (bytes "SSTP0") (replicate 32 0) (Stop 0 ssend) 0 1 refl refl (λ e. absurd (omega (arith, e))) in
+    let fact : _≡_ {A = ℕ} 7 0 = ap (λ (r : List ℕ). getD r 0 0) left in
+    absurd (omega (arith, fact))
+
+-- A library that answers as if all-reply were on: REM is OK, and nothing may be written.
+abbrev pub talks : Library
+talks =
+    withCommand
+    (λ t line reply.
+    let a = commandCall (withAllReply t 1) line reply in
+    record { result = a .result; table = withAllReply (a .table) 0; reply = a .reply })
+
+pub talks-refused :
+    ((t line reply : List ℕ) (sound : soundTable t ≡ true) (enough : 32 ≤ length reply) → Replies talks t line reply sound enough) → ⊥
+unfolding computing-laws
+talks-refused r =
+    let fact : _≡_ {A = ℕ} 512 0 = r freshTable (bytes "REM") (replicate 32 0) refl (omega arith) .others refl .0 in
+    absurd (omega (arith, fact))
+
+-- Limits that change places: FL is kept as the CCW limit, and would read back from there.
+abbrev pub swapsLimits : Library
+swapsLimits =
+    withCommand (λ t line reply. commandCall t (cond (same line (bytes "FL0+5")) (bytes "BL0+5") line) reply)
+
+pub swaps-limits-refused : AllReadsBack swapsLimits → ⊥
+unfolding computing-laws
+swaps-limits-refused r =
+    let read = r lentTable refl (says "REM" ∷ []) (says "FL0+5") [] (bytes "FL?0") (replicate 32 0xaa) (omega arith) in
+    let told = read .held 0 (SetCwLimit (record { minus = false; digits = 5 })) refl refl 0 in
+    let fact : _≡_ {A = ℕ} (code "1") (code "0") = ap (λ (s : List ℕ). getD s 1 0) told in
+    absurd (omega (arith, fact))
