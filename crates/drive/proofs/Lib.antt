@@ -1,5 +1,3 @@
 pub mod Laws
-pub mod TickLaws
 pub mod KeptSound
-pub mod LastTick
 pub mod Cases

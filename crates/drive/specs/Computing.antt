@@ -3,8 +3,7 @@
 use Rattle.motor.specs.Computing.{computing-motor}
 use Rattle.drive.specs.Numbers.{numberOf}
 use Rattle.drive.specs.Drives.{speedNumbered, courseTo, towards, hindrance, judgeStart, started, stopped, speedChanged, switchRead}
-use Rattle.drive.specs.Ticks.{tickSpeed, due, rest, distanceLeft, given, reached, usedUp, drivenOn, tickMotor, tickCount, ticks}
 
 unfoldable pub computing-drive : Unit {0}
-unfolding computing-motor numberOf speedNumbered courseTo towards hindrance judgeStart started stopped speedChanged switchRead tickSpeed due rest distanceLeft given reached usedUp drivenOn tickMotor tickCount ticks
+unfolding computing-motor numberOf speedNumbered courseTo towards hindrance judgeStart started stopped speedChanged switchRead
 computing-drive = tt

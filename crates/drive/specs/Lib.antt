@@ -1,4 +1,3 @@
 pub mod Numbers
 pub mod Drives
-pub mod Ticks
 pub mod Computing

@@ -15,11 +15,12 @@ use Rattle.motor.proofs.SoundLaws.{sound-bounds}
 use Rattle.motor.proofs.RoomLaws.{moved-none}
 use Rattle.drive.specs.declared.Course.the-variants.{Beyond, To}
 use Rattle.drive.specs.declared.Verdict.the-variants.{Done}
-use Rattle.drive.specs.declared.Ticked.{Ticked}
+use Rattle.pulses.specs.declared.Ticked.{Ticked}
 use Rattle.drive.specs.Drives.{lsend, selectedSpeed, courseTo, towards, judgeStart, launched, started, endedWith, stopped, speedChanged, contacted, switchRead}
-use Rattle.drive.specs.Ticks.{tickSpeed, tickMotor}
-use Rattle.drive.proofs.Laws.{stopped-given-none, stopped-stands, stopped-again}
-use Rattle.drive.proofs.TickLaws.{carried, never-early, drive-stays}
+use Rattle.pulses.specs.Ticks.{tickSpeed, tickMotor}
+use Rattle.pulses.proofs.Laws.{stopped-given-none}
+use Rattle.drive.proofs.Laws.{stopped-stands, stopped-again}
+use Rattle.pulses.proofs.TickLaws.{carried, never-early, drive-stays}
 use Rattle.drive.proofs.KeptSound.{towards-ahead}
 use Rattle.line.specs.declared.Written.{Written}
 use Rattle.line.specs.declared.Start.{Start}

@@ -13,8 +13,9 @@ use Rattle.motor.specs.Sound.{isSpeed, limitsInRange, speedsInRange, wiringInRa
 use Rattle.motor.proofs.SoundLaws.{and-l, and-r, sound-parts, bounds-position}
 use Rattle.drive.specs.declared.Verdict.the-variants.{Done}
 use Rattle.drive.specs.Drives.{judgeStart, wellAimed, started, stopped, speedChanged, switchRead}
-use Rattle.drive.specs.Ticks.{tickMotor}
-use Rattle.drive.proofs.KeptSound.{stopped-sound, speed-changed-sound, switch-read-sound, tick-sound, started-sound, place-set-sound, limits-set-sound, speeds-set-sound, wiring-set-sound, setup-set-sound}
+use Rattle.pulses.specs.Ticks.{tickMotor}
+use Rattle.pulses.proofs.TickSound.{tick-sound}
+use Rattle.drive.proofs.KeptSound.{stopped-sound, speed-changed-sound, switch-read-sound, started-sound, place-set-sound, limits-set-sound, speeds-set-sound, wiring-set-sound, setup-set-sound}
 use Rattle.line.specs.declared.Written.{Written}
 use Rattle.line.specs.declared.Four.{Four}
 use Rattle.line.specs.declared.Start.{Start}

@@ -17,8 +17,9 @@ use Rattle.drive.specs.declared.Verdict.{Verdict}
 use Rattle.drive.specs.declared.Verdict.the-variants.{Done, NoForm, Busy, OutOfRange, LocalMode, Disabled, SwitchAhead, NoRoom, NotDriving, WrongSize, NotSound}
 use Rattle.drive.specs.Numbers.{numberOf}
 use Rattle.drive.specs.Drives.{wellAimed, started, stopped, speedChanged, switchRead}
-use Rattle.drive.specs.Ticks.{tickMotor}
-use Rattle.drive.proofs.KeptSound.{course-aimed, tick-sound, stopped-sound}
+use Rattle.pulses.specs.Ticks.{tickMotor}
+use Rattle.pulses.proofs.TickSound.{tick-sound}
+use Rattle.drive.proofs.KeptSound.{course-aimed, stopped-sound}
 use Rattle.line.specs.declared.Start.{Start}
 use Rattle.line.specs.declared.Start.the-variants.{Abs, Rel, Scan, Jog}
 use Rattle.line.specs.declared.Setting.{Setting}

@@ -17,8 +17,8 @@ use Rattle.motor.proofs.SoundLaws.{and-l, and-r}
 use Rattle.drive.specs.declared.Course.the-variants.{To}
 use Rattle.drive.specs.declared.Verdict.the-variants.{Done}
 use Rattle.drive.specs.Drives.{judgeStart, wellAimed, started, endedWith}
-use Rattle.drive.specs.Ticks.{tickMotor, ticks}
-use Rattle.drive.proofs.LastTick.{ticks-none, ticks-more, started-drives-before, started-last-tick}
+use Rattle.pulses.specs.Ticks.{tickMotor, ticks}
+use Rattle.pulses.proofs.LastTick.{ticks-none, ticks-more, started-drives-before, started-last-tick}
 use Rattle.table.specs.Layout.{tableSize, motorAt}
 use Rattle.table.specs.Sound.{soundTable}
 use Rattle.table.proofs.TableLaws.{sound-motor-at}

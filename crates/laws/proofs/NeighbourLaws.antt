@@ -15,8 +15,9 @@ use Rattle.record.specs.Record.{motorOf, recordOf}
 use Rattle.motor.specs.Sound.{driving}
 use Rattle.motor.proofs.RecordLaws.{sound-read-written}
 use Rattle.drive.specs.Drives.{stopped}
-use Rattle.drive.specs.Ticks.{tickMotor}
-use Rattle.drive.proofs.Laws.{stopped-again, stopped-given-none}
+use Rattle.pulses.specs.Ticks.{tickMotor}
+use Rattle.pulses.proofs.Laws.{stopped-given-none}
+use Rattle.drive.proofs.Laws.{stopped-again}
 use Rattle.line.specs.declared.Order.{Order}
 use Rattle.line.specs.declared.Order.the-variants.{Go, Stop, StopAll, ChangeSpeed, Set, Ask, Mode, AllReply, AskHead, ClearErrors, ClearError}
 use Rattle.line.specs.declared.Parsed.{Parsed}

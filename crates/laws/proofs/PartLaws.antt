@@ -17,7 +17,7 @@ use Rattle.record.specs.Record.{motorOf, recordOf, freshMotor}
 use Rattle.record.proofs.RoundTrip.{record-length}
 use Rattle.motor.specs.Sound.{soundMotor}
 use Rattle.motor.proofs.RecordLaws.{sound-written-read}
-use Rattle.drive.specs.Ticks.{tickCount}
+use Rattle.pulses.specs.Ticks.{tickCount}
 use Rattle.table.specs.Layout.{tableSize, recordAt, motorAt, withMotors, freshTable}
 use Rattle.table.specs.Computing.{computing-table}
 use Rattle.table.proofs.PieceLaws.{flat-more}

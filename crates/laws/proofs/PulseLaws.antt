@@ -15,12 +15,13 @@ use Rattle.motor.specs.Switches.{blocked, edge, room}
 use Rattle.motor.specs.Sound.{aimRight, driving, soundMotor}
 use Rattle.motor.proofs.SoundLaws.{sound-driving, sound-bounds}
 use Rattle.motor.proofs.RoomLaws.{moved-ahead, room-moved}
-use Rattle.drive.specs.declared.Ticked.{Ticked}
+use Rattle.pulses.specs.declared.Ticked.{Ticked}
 use Rattle.drive.specs.Drives.{lsend, started, endedWith, stopped, contacted, switchRead, speedChanged}
-use Rattle.drive.specs.Ticks.{toTarget, distanceLeft, roomLeft, given, tickMotor, tickCount}
-use Rattle.drive.proofs.Laws.{given-room, given-distance, stopped-given-none, stopped-none}
-use Rattle.drive.proofs.KeptSound.{pulses-bound}
-use Rattle.drive.proofs.TickLaws.{Way, rests, arrives, ends, goes, way, reached-all, room-all}
+use Rattle.pulses.specs.Ticks.{toTarget, distanceLeft, roomLeft, given, tickMotor, tickCount}
+use Rattle.pulses.proofs.Laws.{given-room, given-distance, stopped-given-none}
+use Rattle.drive.proofs.Laws.{stopped-none}
+use Rattle.pulses.proofs.TickSound.{pulses-bound}
+use Rattle.pulses.proofs.TickLaws.{Way, rests, arrives, ends, goes, way, reached-all, room-all}
 use Rattle.line.specs.declared.Start.{Start}
 use Rattle.orders.specs.Settings.{courseOf}
 use Rattle.table.specs.Layout.{tableSize, motorAt, freshTable}

@@ -17,7 +17,7 @@ use Rattle.drive.specs.declared.Verdict.{Verdict}
 use Rattle.drive.specs.declared.Verdict.the-variants.{Done}
 use Rattle.drive.specs.Numbers.{numberOf}
 use Rattle.drive.specs.Drives.{switchRead}
-use Rattle.drive.specs.Ticks.{tickMotor}
+use Rattle.pulses.specs.Ticks.{tickMotor}
 use Rattle.line.specs.declared.Setting.{Setting}
 use Rattle.line.specs.declared.Question.the-variants.{AskStatus}
 use Rattle.line.specs.declared.HeadQuestion.the-variants.{AskAllReply}

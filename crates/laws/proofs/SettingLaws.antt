@@ -14,8 +14,8 @@ use Rattle.motor.proofs.SoundLaws.{and-l, and-r}
 use Rattle.drive.specs.declared.Course.{Course}
 use Rattle.drive.specs.declared.Course.the-variants.{Stay, Beyond, To, Along}
 use Rattle.drive.specs.Drives.{lsend, speedNumbered, started, endedWith, stopped, speedChanged, contacted, switchRead}
-use Rattle.drive.specs.Ticks.{tickMotor, tickCount}
-use Rattle.drive.proofs.TickLaws.{settings-stay}
+use Rattle.pulses.specs.Ticks.{tickMotor, tickCount}
+use Rattle.pulses.proofs.TickLaws.{settings-stay}
 use Rattle.line.specs.declared.Four.{Four}
 use Rattle.line.specs.declared.Setting.{Setting}
 use Rattle.line.specs.declared.Setting.the-variants.{Preset, SetCwLimit, SetCcwLimit, Select, SetSpeed, SetSwitches, SetMotor}

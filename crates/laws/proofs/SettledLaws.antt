@@ -12,8 +12,8 @@ use Rattle.motor.specs.Sound.{driving}
 use Rattle.drive.specs.declared.Course.{Course}
 use Rattle.drive.specs.declared.Course.the-variants.{Stay, Beyond, To, Along}
 use Rattle.drive.specs.Drives.{lsend, started, endedWith, stopped, speedChanged, contacted, switchRead}
-use Rattle.drive.specs.Ticks.{tickMotor}
-use Rattle.drive.proofs.TickLaws.{SameSettings, settings-stay}
+use Rattle.pulses.specs.Ticks.{tickMotor}
+use Rattle.pulses.proofs.TickLaws.{SameSettings, settings-stay}
 use Rattle.line.specs.declared.Setting.{Setting}
 use Rattle.line.specs.declared.Setting.the-variants.{Preset, SetCwLimit, SetCcwLimit, Select, SetSpeed, SetSwitches, SetMotor}
 use Rattle.orders.specs.Settings.{courseOf, withSetting}

@@ -16,9 +16,9 @@ use Rattle.motor.proofs.SoundLaws.{sound-bounds}
 use Rattle.drive.specs.declared.Course.{Course}
 use Rattle.drive.specs.declared.Course.the-variants.{Stay, Beyond, To, Along}
 use Rattle.drive.specs.Drives.{lsend, started, endedWith, stopped, speedChanged, contacted, switchRead}
-use Rattle.drive.specs.Ticks.{tickMotor, tickCount}
-use Rattle.drive.proofs.TickLaws.{place-moves}
-use Rattle.drive.proofs.KeptSound.{tick-sound, pulses-bound}
+use Rattle.pulses.specs.Ticks.{tickMotor, tickCount}
+use Rattle.pulses.proofs.TickLaws.{place-moves}
+use Rattle.pulses.proofs.TickSound.{tick-sound, pulses-bound}
 use Rattle.line.specs.declared.Setting.{Setting}
 use Rattle.line.specs.declared.Setting.the-variants.{Preset, SetCwLimit, SetCcwLimit, Select, SetSpeed, SetSwitches, SetMotor}
 use Rattle.line.specs.declared.Order.{Order}

@@ -11,7 +11,7 @@ use Rattle.motor.specs.Switches.{room, blocked}
 use Rattle.motor.specs.Sound.{driving}
 use Rattle.drive.specs.declared.Course.the-variants.{To}
 use Rattle.drive.specs.Drives.{lsend, selectedSpeed, towards}
-use Rattle.drive.specs.Ticks.{roundedUp, toTarget, distanceLeft, roomLeft}
+use Rattle.pulses.specs.Ticks.{roundedUp, toTarget, distanceLeft, roomLeft}
 use Rattle.line.specs.declared.Start.{Start}
 use Rattle.orders.specs.Settings.{courseOf}
 use Rattle.table.specs.Layout.{tableSize, motorAt}

@@ -10,7 +10,6 @@ use Rattle.record.specs.Record.{freshMotor, standing, withPlace, withSpeeds, wi
 use Rattle.drive.specs.declared.Course.the-variants.{To, Along}
 use Rattle.drive.specs.declared.Verdict.the-variants.{Done, NoForm, Busy, OutOfRange, LocalMode, Disabled, SwitchAhead, NoRoom, NotDriving, WrongSize, NotSound}
 use Rattle.drive.specs.Drives.{started, stopped}
-use Rattle.drive.specs.Ticks.{ticks}
 use Rattle.line.specs.declared.Question.the-variants.{AskPosition, AskCwLimit, AskCcwLimit, AskSelected, AskSpeed, AskSwitches, AskMotor, AskStatus}
 use Rattle.line.specs.declared.HeadQuestion.the-variants.{AskAllReply, AskFlags, AskError}
 use Rattle.replies.specs.Replies.{echo, headText, questionText}
@@ -94,11 +93,11 @@ other-settings = (refl, refl)
 
 -- "`STSx?`": the cases of the document, then local mode, CCW, the channel in hex and end flags
 statuses :
-    (questionText 1 0 (ticks 3 (started freshMotor (To (origin + 3)))) AskStatus ≡ bytes "R0P003+0000002")
+    (questionText 1 0 (withPlace (started freshMotor (To (origin + 3))) (origin + 2)) AskStatus ≡ bytes "R0P003+0000002")
     × (questionText 1 0 (withDrive (withPlace freshMotor (origin + 3)) 0x20 standing) AskStatus ≡ bytes "R0S020+0000003")
     × (questionText 1 0 (withPlace freshMotor (origin + 3)) AskStatus ≡ bytes "R0S000+0000003")
     × (questionText 0 10 freshMotor AskStatus ≡ bytes "LAS000+0000000")
-    × (questionText 1 15 (ticks 5 (started freshMotor (Along ccw))) AskStatus ≡ bytes "RFN003-0000004")
+    × (questionText 1 15 (withPlace (started freshMotor (Along ccw)) (origin - 4)) AskStatus ≡ bytes "RFN003-0000004")
     × (questionText 1 9 (stopped 0x80 (started freshMotor (Along cw))) AskStatus ≡ bytes "R9S080+0000000")
     × (questionText 1 9 (stopped 0x40 (started freshMotor (Along cw))) AskStatus ≡ bytes "R9S040+0000000")
     × (questionText 1 0 (withPlace freshMotor lowest) AskStatus ≡ bytes "R0S000-2147483647")

@@ -11,10 +11,10 @@ use Rattle.digits.specs.Bytes.{every, part, allZero}
 use Rattle.digits.specs.Places.{placeOf}
 use Rattle.record.specs.Record.{motorOf}
 use Rattle.motor.specs.Sound.{soundMotor, soundRecord}
-use Rattle.drive.specs.Ticks.{tickMotor, tickCount}
+use Rattle.pulses.specs.Ticks.{tickMotor, tickCount}
 use Rattle.drive.specs.Numbers.{numberOf}
 use Rattle.drive.specs.declared.Verdict.the-variants.{Done, WrongSize, NotSound}
-use Rattle.drive.proofs.KeptSound.{pulses-bound}
+use Rattle.pulses.proofs.TickSound.{pulses-bound}
 use Rattle.table.specs.Layout.{tableSize, records, withMotors}
 use Rattle.table.specs.Sound.{soundHead, soundTable}
 use Rattle.urqolina.specs.Calls.{TickAfter, refusal, accepted, counts, tickCall}

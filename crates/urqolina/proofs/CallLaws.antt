@@ -24,7 +24,7 @@ use Rattle.commands.specs.Judging.{busy, judgeMotor, judge}
 use Rattle.drive.specs.declared.Verdict.{Verdict}
 use Rattle.drive.specs.declared.Verdict.the-variants.{Done, NoForm, Busy, OutOfRange, LocalMode, Disabled, SwitchAhead, NoRoom, NotDriving, WrongSize, NotSound}
 use Rattle.drive.specs.Numbers.{numberOf}
-use Rattle.drive.specs.Ticks.{tickCount}
+use Rattle.pulses.specs.Ticks.{tickCount}
 use Rattle.line.specs.declared.Order.{Order}
 use Rattle.line.specs.declared.Order.the-variants.{Go, Stop, StopAll, ChangeSpeed, Set, Ask, Mode, AllReply, AskHead, ClearErrors, ClearError}
 use Rattle.line.proofs.Order as T

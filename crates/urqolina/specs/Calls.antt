@@ -12,7 +12,7 @@ use Rattle.drive.specs.declared.Verdict.the-variants.{Done, NoForm, WrongSize, 
 use Rattle.drive.specs.Numbers.{numberOf}
 use Rattle.record.specs.Record.{motorOf}
 use Rattle.drive.specs.Drives.{switchRead}
-use Rattle.drive.specs.Ticks.{tickMotor, tickCount}
+use Rattle.pulses.specs.Ticks.{tickMotor, tickCount}
 use Rattle.line.specs.declared.Order.{Order}
 use Rattle.line.specs.declared.Parsed.{Parsed}
 use Rattle.line.specs.declared.Parsed.the-variants.{Is, Nothing}

@@ -2,7 +2,7 @@
 
 use digits::places::count_of;
 use digits::words::put_long;
-use drive::tick;
+use pulses::tick;
 use record::Motor;
 use table::motor_at;
 use table::put_motor;

@@ -6,7 +6,7 @@ use mathlib.Core.Path.{_≡_, sym}
 use Prim.Native.Nat.{_-_, _≤_}
 use lib.ListN.{length}
 use Rattle.table.specs.Layout.{tableSize, motorAt}
-use Rattle.drive.specs.Ticks.{tickMotor}
+use Rattle.pulses.specs.Ticks.{tickMotor}
 use Rattle.record.specs.declared.Motor.{Motor}
 use Rattle.digits.specs.Bytes.{put}
 use Rattle.urqolina.proofs.CallLaws.{countsTo, counts-next, counts-all}

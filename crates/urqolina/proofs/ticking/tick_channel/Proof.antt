@@ -1,5 +1,5 @@
 -- `urqolina::ticking::tick_channel` meets its contract. Assumes nothing.
-use Rattle.drive.specs.Ticks.{tickCount}
+use Rattle.pulses.specs.Ticks.{tickCount}
 use borrow.Author.Needs.{needs}
 use Rattle.urqolina.proofs.ticking.tick_channel.Statement.{statement}
 use Rattle.urqolina.proofs.ticking.tick_channel.Tie as tie

@@ -1,0 +1,5 @@
+pub mod Laws
+pub mod TickLaws
+pub mod TickSound
+pub mod LastTick
+pub mod Cases
