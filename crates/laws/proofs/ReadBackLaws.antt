@@ -29,7 +29,8 @@ use Rattle.line.specs.Forms.{orderOf}
 use Rattle.line.specs.Made.{onBench, settingMade, orderMade}
 use Rattle.line.proofs.OrderLaws.{line-made}
 use Rattle.orders.specs.Values.{needsRemote, settingInRange, valueInRange}
-use Rattle.replies.specs.Replies.{modeLetter, statusText, questionText, headText}
+use Rattle.replies.specs.Replies.{questionText, headText}
+use Rattle.status.specs.Status.{modeLetter, statusText}
 use Rattle.table.specs.Layout.{tableSize, mode, allReply, errors, withErrors, motorAt, withMotor, withMotors}
 use Rattle.table.specs.Sound.{soundTable}
 use Rattle.table.proofs.TableLaws.{sound-length, sound-motor-at}

@@ -5,7 +5,8 @@ use mathlib.Core.List.{List, [], _∷_, _++_}
 use mathlib.Core.Bool.{Bool, true, false, not, cond}
 use lib.Dec.{eqb}
 use Rattle.text.specs.Text.{digitByte, bytes}
-use Rattle.replies.specs.Replies.{positionText, speedText, selectedText, modeLetter, questionText}
+use Rattle.replies.specs.Replies.{speedText, selectedText, questionText}
+use Rattle.status.specs.Status.{positionText, modeLetter}
 use Rattle.line.specs.declared.Four.{Four}
 use Rattle.line.specs.declared.Setting.{Setting}
 use Rattle.line.specs.declared.Setting.the-variants.{Preset, SetCwLimit, SetCcwLimit, Select, SetSpeed, SetSwitches, SetMotor}

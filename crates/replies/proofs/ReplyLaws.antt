@@ -1,19 +1,18 @@
--- Laws of replies: what the causes of number 4 share, what a status is written from, and how long a reply is. Assumes nothing.
+-- Laws of replies: what the causes of number 4 share, and how long a reply is. Assumes nothing.
 use mathlib.Core.Path.{_≡_, refl, sym}
-use mathlib.Core.List.{List, [], _∷_, append-nil}
+use mathlib.Core.List.{List, [], _∷_}
 use mathlib.Core.Bool.{Bool, true, false, cond}
 use Prim.Native.Nat.{ℕ, _≤_}
 use native.Mathlib.Omega.{arith}
-use lib.ListN.{length, length-append}
+use lib.ListN.{length}
 use lib.Dec.{eqb}
 use types.Run.{OneOf, miss}
 use borrow.Author.Tests.{leb-true, eqb-true}
 use denote.Enum.Declared.{tagOf}
 use Rattle.digits.specs.Words.{isSet}
-use Rattle.text.specs.Text.{Wrote, bytes, hexDigit, hexByte}
-use Rattle.digits.specs.Bytes.{put, joined}
-use Rattle.digits.proofs.PutLaws.{put-none, lay-put}
-use Rattle.text.proofs.TextLaws.{decimal-within, signed-within}
+use Rattle.text.specs.Text.{Wrote, bytes, hexByte}
+use Rattle.digits.proofs.PutLaws.{put-none}
+use Rattle.text.proofs.TextLaws.{decimal-within}
 use Rattle.record.specs.declared.Motor.{Motor}
 use Rattle.record.specs.declared.Setup.{Setup}
 use Rattle.motor.specs.Sound.{setupInRange}
@@ -27,7 +26,9 @@ use Rattle.line.specs.declared.Question.{Question}
 use Rattle.line.specs.declared.Question.the-variants.{AskPosition, AskCwLimit, AskCcwLimit, AskSelected, AskSpeed, AskSwitches, AskMotor, AskStatus}
 use Rattle.line.specs.declared.HeadQuestion.{HeadQuestion}
 use Rattle.line.specs.declared.HeadQuestion.the-variants.{AskAllReply, AskFlags, AskError}
-use Rattle.replies.specs.Replies.{textOf, positionText, selectedText, switchesText, motorText, statusV, statusHH, modeLetter, goingLetter, statusText, questionText, errorText, echo, headText}
+use Rattle.status.proofs.StatusLaws.{position-within}
+use Rattle.replies.specs.Replies.{textOf, selectedText, switchesText, motorText, questionText, errorText, echo, headText}
+use Rattle.status.specs.Status.{statusText}
 
 -- the causes of number 4, by where they stand among the verdicts
 abbrev causes : List ℕ
@@ -56,23 +57,6 @@ wrote-none t = record { count = refl; buffer = sym (put-none t 0) }
 pub setup-small : (s : Setup) → setupInRange s ≡ true → (s .a ≤ 1) × (s .b ≤ 1) × (s .c ≡ 0) × (s .d ≤ 2)
 unfolding setupInRange
 setup-small s e = search (and-l, and-r, leb-true, eqb-true)
-
--- A position takes at most a sign and ten digits.
-pub position-within : (p : ℕ) → length (positionText p) ≤ 11
-position-within p = signed-within 7 p (omega arith)
-
--- The letters, the flags and the position, written one after the other, are the status.
-pub status-put : (t : List ℕ) (k x : ℕ) (m : Motor) → 32 ≤ length t
-    → put (put (put t 0 (modeLetter k ∷ hexDigit x ∷ goingLetter (m .drive .going) ∷ [])) 3 (hexDigit (statusV m) ∷ hexByte (statusHH m))) 6
-    (positionText (m .place))
-    ≡ put t 0 (statusText k x m)
-unfolding statusText hexByte joined
-status-put t k x m h =
-    let letters = modeLetter k ∷ hexDigit x ∷ goingLetter (m .drive .going) ∷ [] in
-    let flags = hexDigit (statusV m) ∷ hexByte (statusHH m) in
-    rw append-nil at
-    (lay-put (letters ∷ flags ∷ positionText (m .place) ∷ []) t 0
-    (omega (arith, length-append (positionText (m .place)) [], position-within (m .place))))
 
 -- No reply is longer than 17 bytes: the status of a motor at an end of the range is that long.
 text-within : (v : Verdict) → length (textOf v) ≤ 17

@@ -1,9 +1,9 @@
 -- To compute replies down to bytes, a statement says `unfolding computing-replies`: it opens every definition that is otherwise
 -- shut. It says nothing itself.
-use Rattle.text.specs.Computing.{computing-text}
+use Rattle.status.specs.Computing.{computing-status}
 use Rattle.drive.specs.Computing.{computing-drive}
-use Rattle.replies.specs.Replies.{textOf, selectedText, switchesText, motorText, statusV, statusHH, modeLetter, goingLetter, statusText, questionText, errorText, echo, headText}
+use Rattle.replies.specs.Replies.{textOf, selectedText, switchesText, motorText, questionText, errorText, echo, headText}
 
 unfoldable pub computing-replies : Unit {0}
-unfolding computing-text computing-drive textOf selectedText switchesText motorText statusV statusHH modeLetter goingLetter statusText questionText errorText echo headText
+unfolding computing-status computing-drive textOf selectedText switchesText motorText questionText errorText echo headText
 computing-replies = tt

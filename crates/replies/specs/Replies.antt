@@ -1,18 +1,16 @@
 -- Document 01, "Numbers handed back": what is answered.
-use Prim.Native.Char.{code}
-use Prim.Native.Nat.{ℕ, _+_}
-use mathlib.Core.List.{List, [], _∷_, _++_}
-use mathlib.Core.Bool.{Bool, _&&_, not, cond}
+use Prim.Native.Nat.{ℕ}
+use mathlib.Core.List.{List, [], _∷_}
+use mathlib.Core.Bool.{cond}
 use lib.Dec.{eqb}
 use Rattle.digits.specs.Words.{bit, isSet}
 use Rattle.digits.specs.Places.{cw}
-use Rattle.text.specs.Text.{bytes, digitByte, decimal, signedDecimal, hexDigit, hexByte}
+use Rattle.text.specs.Text.{bytes, digitByte, decimal, hexByte}
 use Rattle.record.specs.declared.Setup.{Setup}
 use Rattle.record.specs.declared.Motor.{Motor}
+use Rattle.status.specs.Status.{positionText, statusText}
 use Rattle.drive.specs.declared.Verdict.{Verdict}
 use Rattle.drive.specs.declared.Verdict.the-variants.{Done, NoForm, Busy, OutOfRange, LocalMode, Disabled, SwitchAhead, NoRoom, NotDriving, WrongSize, NotSound}
-use Rattle.motor.specs.Switches.{active}
-use Rattle.motor.specs.Sound.{driving}
 use Rattle.drive.specs.Drives.{speedNumbered}
 use Rattle.line.specs.declared.Question.{Question}
 use Rattle.line.specs.declared.Question.the-variants.{AskPosition, AskCwLimit, AskCcwLimit, AskSelected, AskSpeed, AskSwitches, AskMotor, AskStatus}
@@ -33,10 +31,6 @@ textOf NotDriving = bytes "NG"
 textOf WrongSize = []
 textOf NotSound = []
 
--- "positions and limits, a sign (+ for 0) and at least 7 digits"
-abbrev pub positionText : ℕ → List ℕ
-positionText p = signedDecimal 7 p
-
 -- "speeds, at least 6"
 abbrev pub speedText : ℕ → List ℕ
 speedText v = decimal 6 v
@@ -54,34 +48,6 @@ switchesText n =
 -- `SETMT?`: ABCD, a digit each (000)
 unfoldable pub motorText : Setup → List ℕ
 motorText s = digitByte (s .a) ∷ digitByte (s .b) ∷ digitByte (s .c) ∷ digitByte (s .d) ∷ []
-
--- n where a test holds, else 0
-abbrev pub flagIf : Bool → ℕ → ℕ
-flagIf test n = cond test n 0
-
--- "V: bit 0 CW, 1 CCW, 2 HP active (enabled or not), bit 3 set when stopped with B = 0"
-unfoldable pub statusV : Motor → ℕ
-statusV m =
-    flagIf (active 0 (m .wiring)) 1 + flagIf (active 1 (m .wiring)) 2 + flagIf (active 2 (m .wiring)) 4
-    + flagIf (not (driving m) && eqb (m .setup .b) 0) 8
-
--- "HH: the end flags, or 03 while driving (000)"
-unfoldable pub statusHH : Motor → ℕ
-statusHH m = cond (driving m) 3 (m .ended)
-
--- "R or L": R is remote mode, L local
-unfoldable pub modeLetter : ℕ → ℕ
-modeLetter k = cond (eqb k 0) (code "L") (code "R")
-
--- "P, N or S": driving CW, driving CCW, stopped
-unfoldable pub goingLetter : ℕ → ℕ
-goingLetter g = cond (eqb g 0) (code "S") (cond (eqb g cw) (code "P") (code "N"))
-
--- "`STSx?`: R or L; x; P, N or S; one hex digit V; two hex digits HH; position."
-unfoldable pub statusText : ℕ → ℕ → Motor → List ℕ
-statusText k x m =
-    modeLetter k ∷ hexDigit x ∷ goingLetter (m .drive .going) ∷ hexDigit (statusV m)
-    ∷ (hexByte (statusHH m) ++ positionText (m .place))
 
 -- what is answered to a question about channel x, with the mode k and the channel's motor
 unfoldable pub questionText : ℕ → ℕ → Motor → Question → List ℕ

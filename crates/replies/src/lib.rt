@@ -1,13 +1,11 @@
 // What is answered, written straight into the reply buffer that the caller lends. What stands in each answer is said in specs/.
 
 pub mod settings;
-pub mod status;
 pub mod texts;
 
 use crate::settings::write_selected;
 use crate::settings::write_setup;
 use crate::settings::write_switches;
-use crate::status::write_status;
 use crate::texts::write_all_reply;
 use crate::texts::write_error;
 use crate::texts::write_verdict;
@@ -16,6 +14,7 @@ use drive::speed_numbered;
 use line::HeadQuestion;
 use line::Question;
 use record::Motor;
+use status::write_status;
 use text::decimal::write_decimal;
 use text::decimal::write_signed;
 use text::hex::write_hex;

@@ -5,7 +5,8 @@ use lib.ListN.{length}
 use borrow.Author.Needs.{needs}
 use Rattle.text.proofs.TextLaws.{decimal-within}
 use Rattle.replies.specs.Replies.{questionText}
-use Rattle.replies.proofs.ReplyLaws.{position-within, question-within, short}
+use Rattle.replies.proofs.ReplyLaws.{question-within, short}
+use Rattle.status.proofs.StatusLaws.{position-within}
 use Rattle.replies.proofs.write_question.Statement.{statement}
 use Rattle.replies.proofs.write_question.Tie as tie
 

@@ -1,4 +1,4 @@
--- `replies::status::write_status` meets its contract: what the part after the six bytes is left with is put after them.
+-- `status::write_status` meets its contract: what the part after the six bytes is left with is put after them.
 -- Assumes nothing.
 use Prim.Native.Nat.{_+_, _≤_}
 use native.Mathlib.Omega.{arith}
@@ -7,10 +7,10 @@ use borrow.Author.Needs.{needs}
 use denote.Ref.{now}
 use Rattle.text.specs.Text.{hexByte}
 use Rattle.digits.proofs.PutLaws.{put-rest}
-use Rattle.replies.specs.Replies.{positionText, statusText}
-use Rattle.replies.proofs.ReplyLaws.{position-within, status-put}
-use Rattle.replies.proofs.status.write_status.Statement.{statement}
-use Rattle.replies.proofs.status.write_status.Tie as tie
+use Rattle.status.specs.Status.{positionText, statusText}
+use Rattle.status.proofs.StatusLaws.{position-within, status-put}
+use Rattle.status.proofs.write_status.Statement.{statement}
+use Rattle.status.proofs.write_status.Tie as tie
 
 write-letters-requires : tie.Need-write-letters-requires
 write-letters-requires c κs = search needs

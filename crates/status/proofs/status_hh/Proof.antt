@@ -1,8 +1,8 @@
--- `replies::status::status_hh` meets its contract. Assumes nothing.
+-- `status::status_hh` meets its contract. Assumes nothing.
 use borrow.Author.Needs.{needs}
-use Rattle.replies.specs.Replies.{statusHH}
-use Rattle.replies.proofs.status.status_hh.Statement.{statement}
-use Rattle.replies.proofs.status.status_hh.Tie as tie
+use Rattle.status.specs.Status.{statusHH}
+use Rattle.status.proofs.status_hh.Statement.{statement}
+use Rattle.status.proofs.status_hh.Tie as tie
 
 is-driving-requires : tie.Need-is-driving-requires
 is-driving-requires c κs = search needs

@@ -1,4 +1,4 @@
--- `replies::status::write_flags` meets its contract. Assumes nothing.
+-- `status::write_flags` meets its contract. Assumes nothing.
 use mathlib.Core.List.{_∷_}
 use mathlib.Core.Path.{_≡_}
 use Prim.Native.Nat.{_/_, _%_}
@@ -8,9 +8,9 @@ use borrow.Author.Needs.{needs}
 use denote.Ref.{now}
 use Rattle.text.specs.Text.{hexDigit, hexByte}
 use Rattle.digits.proofs.PutLaws.{stores-put}
-use Rattle.replies.specs.Replies.{statusV, statusHH}
-use Rattle.replies.proofs.status.write_flags.Statement.{statement}
-use Rattle.replies.proofs.status.write_flags.Tie as tie
+use Rattle.status.specs.Status.{statusV, statusHH}
+use Rattle.status.proofs.write_flags.Statement.{statement}
+use Rattle.status.proofs.write_flags.Tie as tie
 
 status-hh-requires : tie.Need-status-hh-requires
 status-hh-requires c κs = search needs

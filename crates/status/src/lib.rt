@@ -14,7 +14,7 @@ ghost use lib.ListN.{length};
 ghost use Rattle.digits.specs.Bytes.{put};
 ghost use Rattle.text.specs.Text.{Wrote, hexDigit, hexByte};
 ghost use Rattle.motor.specs.Switches.{active};
-ghost use Rattle.replies.specs.Replies.{flagIf, statusV, statusHH, modeLetter, goingLetter, statusText};
+ghost use Rattle.status.specs.Status.{flagIf, statusV, statusHH, modeLetter, goingLetter, statusText};
 
 fn flag_if(t: bool, n: u8) -> u8
     ensures { λ r. ⌜ (r ≡ flagIf t n) × (r ≤ n) ⌝ }

@@ -1,8 +1,8 @@
--- `replies::status::going_letter` meets its contract. Assumes nothing.
+-- `status::going_letter` meets its contract. Assumes nothing.
 use borrow.Author.Tests.{eq-eqb, ne-eqb}
-use Rattle.replies.specs.Replies.{goingLetter}
-use Rattle.replies.proofs.status.going_letter.Statement.{statement}
-use Rattle.replies.proofs.status.going_letter.Tie as tie
+use Rattle.status.specs.Status.{goingLetter}
+use Rattle.status.proofs.going_letter.Statement.{statement}
+use Rattle.status.proofs.going_letter.Tie as tie
 
 returns : tie.Need-returns
 unfolding goingLetter

@@ -1,9 +1,9 @@
--- `replies::status::status_v` meets its contract. Assumes nothing.
+-- `status::status_v` meets its contract. Assumes nothing.
 use native.Mathlib.Omega.{arith}
 use borrow.Author.Needs.{needs}
-use Rattle.replies.specs.Replies.{statusV}
-use Rattle.replies.proofs.status.status_v.Statement.{statement}
-use Rattle.replies.proofs.status.status_v.Tie as tie
+use Rattle.status.specs.Status.{statusV}
+use Rattle.status.proofs.status_v.Statement.{statement}
+use Rattle.status.proofs.status_v.Tie as tie
 
 switch-flags-requires : tie.Need-switch-flags-requires
 switch-flags-requires c κs = search needs

@@ -1,4 +1,4 @@
--- `replies::status::write_letters` meets its contract. Assumes nothing.
+-- `status::write_letters` meets its contract. Assumes nothing.
 use mathlib.Core.List.{[], _∷_}
 use mathlib.Core.Path.{_≡_}
 use Prim.Native.Nat.{_%_}
@@ -8,9 +8,9 @@ use borrow.Author.Needs.{needs}
 use denote.Ref.{now}
 use Rattle.text.specs.Text.{hexDigit}
 use Rattle.digits.proofs.PutLaws.{stores-put}
-use Rattle.replies.specs.Replies.{modeLetter, goingLetter}
-use Rattle.replies.proofs.status.write_letters.Statement.{statement}
-use Rattle.replies.proofs.status.write_letters.Tie as tie
+use Rattle.status.specs.Status.{modeLetter, goingLetter}
+use Rattle.status.proofs.write_letters.Statement.{statement}
+use Rattle.status.proofs.write_letters.Tie as tie
 
 mode-letter-requires : tie.Need-mode-letter-requires
 mode-letter-requires c κs = search needs

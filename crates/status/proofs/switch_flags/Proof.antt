@@ -1,8 +1,8 @@
--- `replies::status::switch_flags` meets its contract. Assumes nothing.
+-- `status::switch_flags` meets its contract. Assumes nothing.
 use native.Mathlib.Omega.{arith}
 use borrow.Author.Needs.{needs}
-use Rattle.replies.proofs.status.switch_flags.Statement.{statement}
-use Rattle.replies.proofs.status.switch_flags.Tie as tie
+use Rattle.status.proofs.switch_flags.Statement.{statement}
+use Rattle.status.proofs.switch_flags.Tie as tie
 
 is-active-requires : tie.Need-is-active-requires
 is-active-requires c κs = search needs

@@ -1,8 +1,8 @@
--- `replies::status::mode_letter` meets its contract. Assumes nothing.
+-- `status::mode_letter` meets its contract. Assumes nothing.
 use borrow.Author.Tests.{eq-eqb, ne-eqb}
-use Rattle.replies.specs.Replies.{modeLetter}
-use Rattle.replies.proofs.status.mode_letter.Statement.{statement}
-use Rattle.replies.proofs.status.mode_letter.Tie as tie
+use Rattle.status.specs.Status.{modeLetter}
+use Rattle.status.proofs.mode_letter.Statement.{statement}
+use Rattle.status.proofs.mode_letter.Tie as tie
 
 returns : tie.Need-returns
 unfolding modeLetter

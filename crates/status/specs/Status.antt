@@ -1,0 +1,43 @@
+-- Document 01, "Numbers handed back": a position as it is answered, and the status of a channel.
+use Prim.Native.Char.{code}
+use Prim.Native.Nat.{ℕ, _+_}
+use mathlib.Core.List.{List, _∷_, _++_}
+use mathlib.Core.Bool.{Bool, _&&_, not, cond}
+use lib.Dec.{eqb}
+use Rattle.digits.specs.Places.{cw}
+use Rattle.text.specs.Text.{signedDecimal, hexDigit, hexByte}
+use Rattle.record.specs.declared.Motor.{Motor}
+use Rattle.motor.specs.Switches.{active}
+use Rattle.motor.specs.Sound.{driving}
+
+-- "positions and limits, a sign (+ for 0) and at least 7 digits"
+abbrev pub positionText : ℕ → List ℕ
+positionText p = signedDecimal 7 p
+
+-- n where a test holds, else 0
+abbrev pub flagIf : Bool → ℕ → ℕ
+flagIf test n = cond test n 0
+
+-- "V: bit 0 CW, 1 CCW, 2 HP active (enabled or not), bit 3 set when stopped with B = 0"
+unfoldable pub statusV : Motor → ℕ
+statusV m =
+    flagIf (active 0 (m .wiring)) 1 + flagIf (active 1 (m .wiring)) 2 + flagIf (active 2 (m .wiring)) 4
+    + flagIf (not (driving m) && eqb (m .setup .b) 0) 8
+
+-- "HH: the end flags, or 03 while driving (000)"
+unfoldable pub statusHH : Motor → ℕ
+statusHH m = cond (driving m) 3 (m .ended)
+
+-- "R or L": R is remote mode, L local
+unfoldable pub modeLetter : ℕ → ℕ
+modeLetter k = cond (eqb k 0) (code "L") (code "R")
+
+-- "P, N or S": driving CW, driving CCW, stopped
+unfoldable pub goingLetter : ℕ → ℕ
+goingLetter g = cond (eqb g 0) (code "S") (cond (eqb g cw) (code "P") (code "N"))
+
+-- "`STSx?`: R or L; x; P, N or S; one hex digit V; two hex digits HH; position."
+unfoldable pub statusText : ℕ → ℕ → Motor → List ℕ
+statusText k x m =
+    modeLetter k ∷ hexDigit x ∷ goingLetter (m .drive .going) ∷ hexDigit (statusV m)
+    ∷ (hexByte (statusHH m) ++ positionText (m .place))
