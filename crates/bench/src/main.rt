@@ -1,5 +1,5 @@
-// bench runs scripts over the library. It only moves bytes: what a script means and what is printed for it is said in the
-// crate script.
+// bench runs scripts over the library. It only moves bytes: what a line of a script does is said in the crate running, and
+// what is printed for a whole one in the crate script.
 //
 // The file stdin has document 01's worked example, on channel 0, and its marked cases: case 9 first, on the fresh table, and then
 // each on a channel of its own, cases 1 to 8 on channels 1 to 8 and case 10 on B. That case 2 leaves no fraction is shown by 1,000

@@ -1,7 +1,7 @@
 -- A run of bytes, one after the other. Assumes nothing.
 use Prim.Native.Char.{code}
 use Prim.Native.Nat.{ℕ, _+_, _<_, _≤_}
-use mathlib.Core.Path.{_≡_, refl, _∙_}
+use mathlib.Core.Path.{_≡_, refl}
 use mathlib.Core.List.{List, [], _∷_, _++_, append-assoc}
 use mathlib.Core.Bool.{Bool, true, false, cond}
 use native.Mathlib.Numerals.{add-one}
@@ -10,9 +10,9 @@ use lib.Dec.{eqb}
 use lib.ListN.{length, take, drop, getD, length-append}
 use lib.Seq.{drop-cons, take-at, length-take-le}
 use Rattle.digits.specs.Bytes.{put}
-use Rattle.jobs.specs.Jobs.{jobOf}
-use Rattle.script.specs.Stream.{Stepped, Prints, lineDone, byteRead, streamed}
-use Rattle.script.proofs.RunLaws.{job-within}
+use Rattle.running.specs.Running.{lineDone}
+use Rattle.running.proofs.RunLaws.{line-within}
+use Rattle.script.specs.Stream.{Stepped, Prints, byteRead, endRead, streamed}
 
 -- nothing is read yet
 pub prints-none : (t held bytes : List ℕ) → Prints t held bytes [] t held bytes
@@ -27,10 +27,6 @@ prints-more t held bytes written t₁ held₁ i h f rest =
     rw (add-one i, append-assoc) (rw (drop-cons bytes i 0 h) at (f rest))
 
 -- A byte's text takes no more than 235 bytes.
-pub line-within : (t line : List ℕ) → length (lineDone t line .text) ≤ 235
-unfolding lineDone
-line-within t line = rw length-append (omega (arith, job-within t line (jobOf line)))
-
 either-within : (u : Bool) (a b : Stepped) → length (a .text) ≤ 235 → length (b .text) ≤ 235 → length (cond u a b .text) ≤ 235
 either-within true a b h l = h
 either-within false a b h l = l
@@ -45,3 +41,9 @@ unfolding put
 front-more t b n h =
     let e : length (take n t) ≡ n = length-take-le n t (omega arith) in
     rw (← append-assoc) (take-at (take n t ++ b) (drop (n + length b) t) (n + length b) (rw length-append (omega arith)))
+
+-- At the end a line that has a byte is done as any other.
+pub end-some : (t s : List ℕ) → 0 < length s → endRead t s ≡ lineDone t s .text
+unfolding endRead
+end-some t [] h = absurd (omega arith)
+end-some t (b ∷ s) h = refl

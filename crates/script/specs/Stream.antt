@@ -6,18 +6,10 @@ use Prim.Native.Nat.{ℕ}
 use mathlib.Core.Path.{_≡_}
 use mathlib.Core.List.{List, [], _∷_, _++_}
 use mathlib.Core.Bool.{cond}
-use lib.ListN.{length}
 use lib.Dec.{eqb}
 use Rattle.text.specs.Text.{Wrote}
-use Rattle.jobs.specs.Jobs.{jobOf}
 use Rattle.jobs.specs.Holding.{kept}
-use Rattle.script.specs.Output.{Printed, jobDone}
-
--- a line by itself: its table, and its text with the line feed
-unfoldable pub lineDone : List ℕ → List ℕ → Printed
-lineDone t line =
-    let r = jobDone t line (jobOf line) in
-    record { table = r .table; text = r .text ++ (code "\n" ∷ []) }
+use Rattle.running.specs.Running.{lineDone}
 
 -- what a byte of the input leaves and prints
 pub record Stepped : Type 0 where

@@ -1,7 +1,7 @@
 // bench as it reads: a byte of the input at a time, and the end.
 
-use crate::running::run_line;
 use jobs::holding::keep;
+use running::run_line;
 ghost use mathlib.Core.Path.{_≡_};
 ghost use Prim.Native.Nat.{_<_, _≤_};
 ghost use lib.ListN.{length, take, drop};

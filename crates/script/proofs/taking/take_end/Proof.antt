@@ -6,9 +6,9 @@ use lib.Seq.{length-take-le}
 use denote.Ref.{now}
 use borrow.Author.Needs.{needs}
 use Rattle.digits.proofs.PutLaws.{put-none}
+use Rattle.running.proofs.RunLaws.{line-within}
 use Rattle.script.specs.Stream.{endRead}
-use Rattle.script.proofs.RunLaws.{end-some}
-use Rattle.script.proofs.FeedLaws.{line-within}
+use Rattle.script.proofs.FeedLaws.{end-some}
 use Rattle.script.proofs.taking.take_end.Statement.{statement}
 use Rattle.script.proofs.taking.take_end.Tie as tie
 

@@ -1,9 +1,9 @@
--- `script::running::wait_line` meets its contract. Assumes nothing.
+-- `running::wait_line` meets its contract. Assumes nothing.
 use mathlib.Core.Path.{refl}
 use borrow.Author.Needs.{needs}
-use Rattle.script.specs.Output.{ticked}
-use Rattle.script.proofs.running.wait_line.Statement.{statement}
-use Rattle.script.proofs.running.wait_line.Tie as tie
+use Rattle.running.specs.Running.{ticked}
+use Rattle.running.proofs.wait_line.Statement.{statement}
+use Rattle.running.proofs.wait_line.Tie as tie
 
 slice-aggregate-wait : tie.Need-slice-aggregate-wait
 slice-aggregate-wait c = search needs

@@ -1,14 +1,14 @@
--- `script::running::run_job` meets its contract. Assumes nothing.
+-- `running::run_job` meets its contract. Assumes nothing.
 use Prim.Native.Char.{code}
 use mathlib.Core.Path.{refl, sym, _∙_}
 use native.Mathlib.Omega.{arith}
 use denote.Ref.{now}
 use borrow.Author.Needs.{needs}
 use Rattle.text.specs.Text.{bytes}
-use Rattle.script.proofs.RunLaws.{send-two, waits-few}
+use Rattle.running.proofs.RunLaws.{send-two, waits-few}
 use Rattle.jobs.proofs.OutLaws.{set-put, whole-rest}
-use Rattle.script.proofs.running.run_job.Statement.{statement}
-use Rattle.script.proofs.running.run_job.Tie as tie
+use Rattle.running.proofs.run_job.Statement.{statement}
+use Rattle.running.proofs.run_job.Tie as tie
 
 job-of-requires : tie.Need-job-of-requires
 job-of-requires c κs = search needs

@@ -1,11 +1,11 @@
--- `script::running::touch` meets its contract. Assumes nothing.
+-- `running::touch` meets its contract. Assumes nothing.
 use mathlib.Core.Path.{_≡_, refl, sym}
 use denote.Ref.{now}
 use borrow.Author.Needs.{needs}
 use Rattle.urqolina.specs.Calls.{readingCall}
-use Rattle.script.specs.Output.{touched}
-use Rattle.script.proofs.running.touch.Statement.{statement}
-use Rattle.script.proofs.running.touch.Tie as tie
+use Rattle.running.specs.Running.{touched}
+use Rattle.running.proofs.touch.Statement.{statement}
+use Rattle.running.proofs.touch.Tie as tie
 
 urqolina-reading-requires : tie.Need-urqolina-reading-requires
 urqolina-reading-requires c κs = search needs

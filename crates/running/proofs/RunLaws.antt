@@ -32,8 +32,7 @@ use Rattle.jobs.specs.declared.Job.the-variants.{Send, Touch, Wait, Unknown}
 use Rattle.jobs.specs.Jobs.{isContacts, isTicks, jobIf, touchOf, waitOf, lettered, jobOf}
 use Rattle.jobs.specs.Bounds.{mostTicks}
 use Rattle.jobs.specs.Texts.{plainText, commandText, netTexts, waitedText}
-use Rattle.script.specs.Output.{Waited, tickOf, waited, sent, touched, ticked, jobDone}
-use Rattle.script.specs.Stream.{lineDone, endRead}
+use Rattle.running.specs.Running.{Waited, tickOf, waited, sent, touched, ticked, jobDone, lineDone}
 use Rattle.jobs.proofs.JobLaws.{ticks-within}
 use Rattle.jobs.proofs.OutLaws.{reply-within, net-within}
 
@@ -112,6 +111,10 @@ job-within t line (Touch c n) = omega (arith, plain-within (readingCall t c n .r
 job-within t line (Wait n) = waited-short _ _
 job-within t line Unknown = omega arith
 
+pub line-within : (t line : List ℕ) → length (lineDone t line .text) ≤ 235
+unfolding lineDone
+line-within t line = rw length-append (omega (arith, job-within t line (jobOf line)))
+
 -- A line that sends a command has its letter and its blank.
 pub send-two : (s : List ℕ) → jobOf s ≡ Send → 2 ≤ length s
 unfolding jobOf
@@ -160,12 +163,6 @@ waits-few (k ∷ b ∷ s) n e = go (eqb b (code " ")) e
     go : (t : Bool) → jobIf t (lettered k s) ≡ Wait n → n ≤ mostTicks
     go true e = lettered-few k s n e
     go false e = let z : _≡_ {A = ℕ} 0 1 = cc in absurd (omega arith)
-
--- At the end a line that has a byte is done as any other.
-pub end-some : (t s : List ℕ) → 0 < length s → endRead t s ≡ lineDone t s .text
-unfolding endRead
-end-some t [] h = absurd (omega arith)
-end-some t (b ∷ s) h = refl
 
 -- one of the ticks that are left
 pub waited-more : (n : ℕ) (w : Waited) → 0 < n → waited n w ≡ waited (n - 1) (tickOf w)

@@ -1,17 +1,16 @@
--- `script::running::run_line` meets its contract. Assumes nothing.
+-- `running::run_line` meets its contract. Assumes nothing.
 use Prim.Native.Nat.{_≤_}
 use Prim.Native.Char.{code}
 use native.Mathlib.Omega.{arith}
 use lib.ListN.{length, length-append}
 use denote.Ref.{now}
 use borrow.Author.Needs.{needs}
-use Rattle.script.specs.Stream.{lineDone}
-use Rattle.script.specs.Output.{jobDone}
+use Rattle.running.specs.Running.{jobDone, lineDone}
 use Rattle.jobs.specs.Jobs.{jobOf}
-use Rattle.script.proofs.RunLaws.{job-within}
+use Rattle.running.proofs.RunLaws.{job-within}
 use Rattle.jobs.proofs.OutLaws.{text-byte}
-use Rattle.script.proofs.running.run_line.Statement.{statement}
-use Rattle.script.proofs.running.run_line.Tie as tie
+use Rattle.running.proofs.run_line.Statement.{statement}
+use Rattle.running.proofs.run_line.Tie as tie
 
 run-job-requires : tie.Need-run-job-requires
 run-job-requires c κs = search needs

@@ -1,14 +1,14 @@
--- `script::running::send` meets its contract. Assumes nothing.
+-- `running::send` meets its contract. Assumes nothing.
 use mathlib.Core.Path.{_≡_, refl, ap}
 use native.Mathlib.Omega.{arith}
 use lib.ListN.{replicate}
 use denote.Ref.{now}
 use borrow.Author.Needs.{needs}
 use Rattle.urqolina.specs.Calls.{commandCall}
-use Rattle.script.specs.Output.{sent}
-use Rattle.script.proofs.RunLaws.{command-within}
-use Rattle.script.proofs.running.send.Statement.{statement}
-use Rattle.script.proofs.running.send.Tie as tie
+use Rattle.running.specs.Running.{sent}
+use Rattle.running.proofs.RunLaws.{command-within}
+use Rattle.running.proofs.send.Statement.{statement}
+use Rattle.running.proofs.send.Tie as tie
 
 slice-aggregate-urqolina-command : tie.Need-slice-aggregate-urqolina-command
 slice-aggregate-urqolina-command c = search needs

@@ -1,12 +1,12 @@
--- `script::running::tick_once` meets its contract. Assumes nothing.
+-- `running::tick_once` meets its contract. Assumes nothing.
 use mathlib.Core.Path.{_≡_, ap}
 use lib.ListN.{replicate}
 use denote.Ref.{now}
 use borrow.Author.Needs.{needs}
 use Rattle.urqolina.specs.Calls.{tickCall}
-use Rattle.script.proofs.TickBounds.{tick-within}
-use Rattle.script.proofs.running.tick_once.Statement.{statement}
-use Rattle.script.proofs.running.tick_once.Tie as tie
+use Rattle.running.proofs.TickBounds.{tick-within}
+use Rattle.running.proofs.tick_once.Statement.{statement}
+use Rattle.running.proofs.tick_once.Tie as tie
 
 slice-aggregate-urqolina-tick : tie.Need-slice-aggregate-urqolina-tick
 slice-aggregate-urqolina-tick c = search needs

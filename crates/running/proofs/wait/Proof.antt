@@ -1,17 +1,17 @@
--- `script::running::wait` meets its contract. Assumes nothing.
+-- `running::wait` meets its contract. Assumes nothing.
 use Prim.Native.Nat.{_+_, _*_, _-_, _≤_}
 use mathlib.Core.Path.{_≡_, refl, sym, ap, _∙_}
 use native.Mathlib.Omega.{arith}
 use lib.ListN.{length, replicate}
 use Rattle.urqolina.specs.Calls.{tickCall}
 use Rattle.jobs.specs.Texts.{netsAfter}
-use Rattle.script.specs.Output.{waited}
+use Rattle.running.specs.Running.{waited}
 use Rattle.jobs.specs.Bounds.{NetsWithin, mostCount, mostNet}
-use Rattle.script.proofs.TickBounds.{tick-within}
+use Rattle.running.proofs.TickBounds.{tick-within}
 use Rattle.jobs.proofs.NetLaws.{none-within, within-more, nets-within}
-use Rattle.script.proofs.RunLaws.{waited-more}
-use Rattle.script.proofs.running.wait.Statement.{statement}
-use Rattle.script.proofs.running.wait.Tie as tie
+use Rattle.running.proofs.RunLaws.{waited-more}
+use Rattle.running.proofs.wait.Statement.{statement}
+use Rattle.running.proofs.wait.Tie as tie
 
 abbrev Inv-loop : tie.InvT-loop
 Inv-loop table₀ n nets₀ result₀ left₀ table nets result left =

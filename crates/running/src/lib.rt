@@ -1,4 +1,5 @@
 // A line of a script, run on a table: what it does to the table, and its text at the front of the buffer that the caller lends.
+// What a line does and prints is said in specs/.
 
 use digits::places::ORIGIN;
 use jobs::Job;
@@ -16,8 +17,7 @@ ghost use lib.ListN.{length, replicate};
 ghost use Rattle.digits.specs.Places.{origin};
 ghost use Rattle.jobs.specs.Bounds.{NetsWithin, mostNet, mostTicks, outSize};
 ghost use Rattle.jobs.specs.Jobs.{jobOf};
-ghost use Rattle.script.specs.Output.{Leaves, sent, touched, tickOf, waited, ticked, jobDone};
-ghost use Rattle.script.specs.Stream.{lineDone};
+ghost use Rattle.running.specs.Running.{Leaves, sent, touched, tickOf, waited, ticked, jobDone, lineDone};
 
 // One tick, whose counts go to the nets. The pulse buffer is zeroed each time, so that a tick that is refused counts nothing.
 fn tick_once(table: &mut [u8], nets: &mut [u32]) -> u32
