@@ -23,7 +23,8 @@ use Rattle.line.specs.declared.Setting.the-variants.{Preset}
 use Rattle.line.specs.declared.Order.the-variants.{Mode}
 use Rattle.line.specs.Forms.{ssend}
 use Rattle.table.specs.Layout.{tableSize, errors, withErrors, motorAt, withMotor, withMotors, freshTable}
-use Rattle.urqolina.specs.Calls.{CommandAfter, TickAfter, freshCall, commandCall, readingCall, tickCall}
+use Rattle.obeying.specs.Taking.{CommandAfter}
+use Rattle.urqolina.specs.Calls.{TickAfter, freshCall, commandCall, readingCall, tickCall}
 use Rattle.laws.specs.Computing.{computing-laws}
 use Rattle.laws.specs.Sequences.{Library, Call, command, reading, tick, After}
 use Rattle.laws.specs.Deeds.{Deed, starts, stops, speeds, sets, reads, ticks, rests, deed}
