@@ -25,7 +25,8 @@ use Rattle.line.specs.declared.Order.the-variants.{Stop, Mode}
 use Rattle.line.specs.Forms.{ssend}
 use Rattle.table.specs.Layout.{tableSize, errors, withErrors, withAllReply, motorAt, withMotor, withMotors, freshTable}
 use Rattle.table.specs.Sound.{soundTable}
-use Rattle.urqolina.specs.Calls.{CommandAfter, TickAfter, freshCall, commandCall, readingCall, tickCall}
+use Rattle.obeying.specs.Taking.{CommandAfter}
+use Rattle.urqolina.specs.Calls.{TickAfter, freshCall, commandCall, readingCall, tickCall}
 use Rattle.laws.specs.Computing.{computing-laws}
 use Rattle.laws.specs.Sequences.{Library, Call, command, reading, tick, After}
 use Rattle.laws.specs.Deeds.{Deed, starts, stops, speeds, sets, reads, ticks, rests, deed}

@@ -20,7 +20,8 @@ use Rattle.table.specs.Sound.{soundTable}
 use Rattle.commands.specs.Judging.{busy, judgeMotor, judge}
 use Rattle.commands.specs.Changing.{changed}
 use Rattle.commands.specs.Answers.{told, answer}
-use Rattle.urqolina.specs.Calls.{CommandAfter, refused, obeyed, taken, commandCall}
+use Rattle.obeying.specs.Taking.{CommandAfter, refused, obeyed, taken}
+use Rattle.urqolina.specs.Calls.{commandCall}
 use Rattle.laws.specs.Sequences.{urqolina, after}
 use Rattle.laws.specs.Deeds.{verdict}
 use Rattle.laws.specs.ReadBack.{isSome}

@@ -19,8 +19,9 @@ use Rattle.table.specs.Layout.{tableSize, motorAt, withMotor, withMotors}
 use Rattle.table.specs.Sound.{soundTable}
 use Rattle.table.proofs.TableLaws.{sound-length}
 use Rattle.commands.specs.Judging.{judge}
-use Rattle.urqolina.specs.Calls.{refusal, accepted, TableAfter, CommandAfter, TickAfter, refused, obeyed, taken, commandCall, readingCall, counts, tickCall}
-use Rattle.urqolina.proofs.Refusals.{judge-number}
+use Rattle.obeying.specs.Taking.{accepted, CommandAfter, refused, obeyed, taken}
+use Rattle.obeying.proofs.NumberLaws.{judge-number}
+use Rattle.urqolina.specs.Calls.{refusal, TableAfter, TickAfter, commandCall, readingCall, counts, tickCall}
 use Rattle.urqolina.proofs.CallLaws.{sizes-channel}
 use Rattle.laws.specs.Sequences.{command}
 use Rattle.laws.specs.Deeds.{verdict, orderPassed, orderTaken}

@@ -39,7 +39,8 @@ use Rattle.table.proofs.KeptLaws.{written-motor, motor-kept, sound-head-of, hea
 use Rattle.commands.specs.Judging.{busy, judgeMotor, judge}
 use Rattle.commands.specs.Changing.{changed, flagged}
 use Rattle.commands.proofs.ChannelLaws.{named, named-channel}
-use Rattle.urqolina.specs.Calls.{refused, obeyed, commandCall, readingCall, tickCall}
+use Rattle.obeying.specs.Taking.{refused, obeyed}
+use Rattle.urqolina.specs.Calls.{commandCall, readingCall, tickCall}
 use Rattle.laws.specs.Sequences.{urqolina, Call, command, reading, tick, after}
 use Rattle.laws.specs.Deeds.{verdict, Deed, starts, stops, speeds, sets, reads, ticks, rests, deedIf, deedOf, deedTaken, deed}
 use Rattle.laws.proofs.PartLaws.{motors-motor}

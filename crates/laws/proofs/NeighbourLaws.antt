@@ -33,7 +33,8 @@ use Rattle.table.proofs.TableLaws.{sound-length, sound-record-at}
 use Rattle.table.proofs.KeptLaws.{written-record, head-kept, record-kept}
 use Rattle.commands.specs.Changing.{changed, flagged}
 use Rattle.commands.proofs.ChannelLaws.{named, named-channel}
-use Rattle.urqolina.specs.Calls.{refused, obeyed, commandCall, tickCall}
+use Rattle.obeying.specs.Taking.{refused, obeyed}
+use Rattle.urqolina.specs.Calls.{commandCall, tickCall}
 use Rattle.laws.specs.Sequences.{urqolina, Call, command, reading, tick, after}
 use Rattle.laws.specs.Deeds.{Deed, starts, stops, speeds, sets, reads, ticks, rests, deedIf, names, deedOf}
 use Rattle.laws.specs.Neighbours.{ofHead, Neighbours}

@@ -16,7 +16,8 @@ use Rattle.line.specs.Forms.{orderOf}
 use Rattle.table.specs.Layout.{tableSize, errors, withErrors}
 use Rattle.table.specs.Sound.{soundTable}
 use Rattle.commands.specs.Changing.{flagged}
-use Rattle.urqolina.specs.Calls.{refused, obeyed, commandCall}
+use Rattle.obeying.specs.Taking.{refused, obeyed}
+use Rattle.urqolina.specs.Calls.{commandCall}
 use Rattle.urqolina.proofs.Refusals.{fresh-made, fresh-refused, command-size, command-unsound, reading-size, reading-unsound, tick-size, tick-unsound, reading-accepted, tick-accepted}
 use Rattle.laws.specs.Sequences.{urqolina, Call, command, reading, tick, After, after}
 use Rattle.laws.specs.Deeds.{verdict, orderTaken}

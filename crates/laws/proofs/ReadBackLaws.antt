@@ -40,7 +40,8 @@ use Rattle.commands.specs.Judging.{busy, judgeMotor, judge}
 use Rattle.commands.specs.Changing.{changed, flagged}
 use Rattle.commands.proofs.ChannelLaws.{named, named-channel}
 use Rattle.commands.specs.Answers.{answer}
-use Rattle.urqolina.specs.Calls.{refused, obeyed, taken, commandCall}
+use Rattle.obeying.specs.Taking.{refused, obeyed, taken}
+use Rattle.urqolina.specs.Calls.{commandCall}
 use Rattle.laws.specs.Sequences.{urqolina, Call, command, reading, tick, after, run, ran, never}
 use Rattle.laws.specs.Deeds.{verdict, sets, orderTaken, deedOf, deed}
 use Rattle.laws.specs.Ledger.{countAt}

@@ -15,7 +15,7 @@ use Rattle.line.specs.declared.Parsed.{Parsed}
 use Rattle.line.specs.declared.Parsed.the-variants.{Is, Nothing}
 use Rattle.line.specs.Forms.{orderOf}
 use Rattle.commands.specs.Judging.{judge}
-use Rattle.urqolina.specs.Calls.{accepted}
+use Rattle.obeying.specs.Taking.{accepted}
 use Rattle.laws.specs.Sequences.{Call, command, reading, tick}
 
 -- the verdict on what a line is: "1 | .. | the line has none of the forms above", or what the rules judge

@@ -4,7 +4,8 @@
 use Prim.Native.Nat.{ℕ}
 use mathlib.Core.List.{List, [], _∷_}
 use mathlib.Core.Bool.{Bool, true, _&&_, not}
-use Rattle.urqolina.specs.Calls.{TableAfter, CommandAfter, TickAfter, freshCall, commandCall, readingCall, tickCall}
+use Rattle.obeying.specs.Taking.{CommandAfter}
+use Rattle.urqolina.specs.Calls.{TableAfter, TickAfter, freshCall, commandCall, readingCall, tickCall}
 
 -- the four calls of a library, as functions of all that they are lent. The demands are stated of any library, so that one can
 -- ask which libraries they refuse.

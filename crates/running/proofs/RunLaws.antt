@@ -25,8 +25,9 @@ use Rattle.table.specs.Sound.{soundTable}
 use Rattle.commands.specs.Answers.{answer}
 use Rattle.commands.specs.Judging.{judge}
 use Rattle.commands.specs.Changing.{changed, flagged}
-use Rattle.urqolina.specs.Calls.{CommandAfter, refused, obeyed, taken, commandCall, readingCall}
-use Rattle.urqolina.proofs.CallLaws.{number-most}
+use Rattle.obeying.specs.Taking.{CommandAfter, refused, obeyed, taken}
+use Rattle.obeying.proofs.NumberLaws.{number-most}
+use Rattle.urqolina.specs.Calls.{commandCall, readingCall}
 use Rattle.jobs.specs.declared.Job.{Job}
 use Rattle.jobs.specs.declared.Job.the-variants.{Send, Touch, Wait, Unknown}
 use Rattle.jobs.specs.Jobs.{isContacts, isTicks, jobIf, touchOf, waitOf, lettered, jobOf}

@@ -17,7 +17,8 @@ use Rattle.drive.specs.declared.Verdict.the-variants.{Done, WrongSize, NotSound
 use Rattle.pulses.proofs.TickSound.{pulses-bound}
 use Rattle.table.specs.Layout.{tableSize, records, withMotors}
 use Rattle.table.specs.Sound.{soundHead, soundTable}
-use Rattle.urqolina.specs.Calls.{TickAfter, accepted, counts, tickCall}
+use Rattle.obeying.specs.Taking.{accepted}
+use Rattle.urqolina.specs.Calls.{TickAfter, refusal, counts, tickCall}
 use Rattle.jobs.specs.Bounds.{Near, CountsWithin, mostCount}
 use Rattle.jobs.proofs.NetLaws.{count-near, words-within, zeros-within}
 

@@ -1,90 +1,24 @@
--- What the calls go by: numbers that are small, orders that ask nothing, and counts gathered channel by channel. Assumes
--- nothing.
+-- What the calls go by: counts gathered channel by channel, and the sizes that a call tests. Assumes nothing.
 use mathlib.Core.Path.{_≡_, refl, sym, _∙_}
-use mathlib.Core.List.{List, [], _∷_, flatMap}
+use mathlib.Core.List.{List, flatMap}
+use mathlib.Core.Bool.{true, _&&_}
 use Prim.Native.Nat.{ℕ, _+_, _*_, _≤_}
 use native.Mathlib.Nat.{zero-add}
 use native.Mathlib.Numerals.{add-one}
 use native.Mathlib.Omega.{arith}
 use lib.ListN.{length, drop}
-use types.Run.{OneOf, miss}
-use denote.Enum.Declared.{tagOf}
+use lib.Dec.{eqb, leb}
+use borrow.Author.Tests.{leb-true, eqb-true}
 use Rattle.digits.specs.Bytes.{put, pieces}
 use Rattle.digits.specs.Words.{wordBytes}
 use Rattle.digits.proofs.PutLaws.{put-none, put-after, put-whole}
 use Rattle.record.specs.Record.{motorOf}
-use Rattle.record.specs.declared.Motor.{Motor}
-use Rattle.motor.specs.Sound.{setupInRange, soundMotor}
-use Rattle.motor.proofs.SoundLaws.{and-l, and-r, sound-parts}
-use mathlib.Core.Bool.{Bool, true, false, _&&_, not, cond}
-use lib.Dec.{eqb, leb}
-use borrow.Author.Tests.{leb-true, eqb-true}
-use Rattle.orders.specs.Values.{needsRemote, valueInRange}
-use Rattle.commands.specs.Judging.{busy, judgeMotor, judge}
-use Rattle.drive.specs.declared.Verdict.{Verdict}
-use Rattle.drive.specs.declared.Verdict.the-variants.{Done, NoForm, Busy, OutOfRange, LocalMode, Disabled, SwitchAhead, NoRoom, NotDriving, WrongSize, NotSound}
-use Rattle.drive.specs.Numbers.{numberOf}
+use Rattle.motor.proofs.SoundLaws.{and-l, and-r}
 use Rattle.pulses.specs.Ticks.{tickCount}
-use Rattle.line.specs.declared.Order.{Order}
-use Rattle.line.specs.declared.Order.the-variants.{Go, Stop, StopAll, ChangeSpeed, Set, Ask, Mode, AllReply, AskHead, ClearErrors, ClearError}
-use Rattle.line.proofs.Order as T
-use Rattle.table.specs.Layout.{tableSize, mode, motorAt}
+use Rattle.table.specs.Layout.{tableSize, motorAt}
 use Rattle.table.proofs.TableLaws.{flat-motors}
 use Rattle.table.proofs.PieceLaws.{flat-length}
-use Rattle.commands.specs.Answers.{told, answer}
 use Rattle.urqolina.specs.Calls.{counts}
-
--- No number is above 6.
-pub number-most : (v : Verdict) → numberOf v ≤ 6
-unfolding numberOf
-number-most Done = omega arith
-number-most NoForm = omega arith
-number-most Busy = omega arith
-number-most OutOfRange = omega arith
-number-most LocalMode = omega arith
-number-most Disabled = omega arith
-number-most SwitchAhead = omega arith
-number-most NoRoom = omega arith
-number-most NotDriving = omega arith
-number-most WrongSize = omega arith
-number-most NotSound = omega arith
-
--- An order that is accepted has its value in range.
-pub judged-value : (t : List ℕ) (o : Order) → numberOf (judge t o) ≡ 0 → valueInRange o ≡ true
-unfolding judge numberOf
-judged-value t o e = local (needsRemote o && eqb (mode t) 0) e
-  where
-    ranged : (b : Bool) → valueInRange o ≡ b → numberOf (cond (not b) OutOfRange (cond (busy t o) Busy (judgeMotor t o))) ≡ 0 → valueInRange o ≡ true
-    ranged true h e = h
-    ranged false h e = absurd (omega (arith, e))
-
-    local : (b : Bool) → numberOf (cond b LocalMode (cond (not (valueInRange o)) OutOfRange (cond (busy t o) Busy (judgeMotor t o)))) ≡ 0
-        → valueInRange o ≡ true
-    local true e = absurd (omega (arith, e))
-    local false e = ranged (valueInRange o) refl e
-
--- A sound motor's SETMT digits are in range.
-pub setup-sound : (m : Motor) → soundMotor m ≡ true → setupInRange (m .setup) ≡ true
-setup-sound m s = sound-parts m s .range .setup
-
--- the orders that ask nothing, by where they stand among the orders
-abbrev pub unasked : List ℕ
-unasked = 0 ∷ 1 ∷ 2 ∷ 3 ∷ 4 ∷ 6 ∷ 7 ∷ 9 ∷ 10 ∷ []
-
--- They are answered OK, or nothing.
-pub unasked-told : (t : List ℕ) (o : Order) → OneOf unasked (tagOf T.the-type o) → answer t o ≡ told t Done
-unfolding answer
-unasked-told t (Go x s) h = refl
-unasked-told t (Stop x flags) h = refl
-unasked-told t (StopAll flags) h = refl
-unasked-told t (ChangeSpeed x v) h = refl
-unasked-told t (Set x s) h = refl
-unasked-told t (Ask x q) h = absurd (miss unasked 5 tt h)
-unasked-told t (Mode k) h = refl
-unasked-told t (AllReply k) h = refl
-unasked-told t (AskHead q) h = absurd (miss unasked 8 tt h)
-unasked-told t ClearErrors h = refl
-unasked-told t (ClearError e) h = refl
 
 -- the counts of the first k channels
 abbrev pub countsTo : ℕ → List ℕ → List ℕ

@@ -3,7 +3,7 @@
 use mathlib.Core.Path.{_≡_, ap, sym, _∙_}
 use mathlib.Core.List.{List}
 use Prim.Native.Nat.{ℕ}
-use Rattle.urqolina.specs.Calls.{TableAfter, CommandAfter, TickAfter, freshCall, commandCall, readingCall, tickCall}
+use Rattle.urqolina.specs.Calls.{TableAfter, freshCall, commandCall, readingCall, tickCall}
 
 -- two outcomes that are the same have the same result and the same bytes
 same-table : (a b : TableAfter) → a ≡ b → (a .result ≡ b .result) × (a .table ≡ b .table)

@@ -1,35 +1,25 @@
 -- The four calls, each a function from all its inputs to all that it leaves: the result, the table, and the reply or the pulse
--- buffer. The inputs are any lists and any numbers.
-use Prim.Native.Nat.{ℕ, _+_, _*_}
+-- buffer. The inputs are any lists and any numbers. What a line does on a sound table is `taken` of obeying/specs/Taking.antt.
+use Prim.Native.Nat.{ℕ}
 use mathlib.Core.List.{List, flatMap}
 use mathlib.Core.Bool.{Bool, _&&_, cond}
 use lib.ListN.{length}
 use lib.Dec.{eqb, leb}
-use Rattle.digits.specs.Bytes.{put}
 use Rattle.digits.specs.Words.{wordBytes}
 use Rattle.drive.specs.declared.Verdict.{Verdict}
-use Rattle.drive.specs.declared.Verdict.the-variants.{Done, NoForm, WrongSize, NotSound}
+use Rattle.drive.specs.declared.Verdict.the-variants.{Done, WrongSize, NotSound}
 use Rattle.drive.specs.Numbers.{numberOf}
 use Rattle.record.specs.Record.{motorOf}
 use Rattle.drive.specs.Drives.{switchRead}
 use Rattle.pulses.specs.Ticks.{tickMotor, tickCount}
-use Rattle.line.specs.declared.Order.{Order}
-use Rattle.line.specs.declared.Parsed.{Parsed}
-use Rattle.line.specs.declared.Parsed.the-variants.{Is, Nothing}
 use Rattle.line.specs.Forms.{orderOf}
 use Rattle.table.specs.Layout.{tableSize, records, motorAt, withMotor, withMotors, freshTable}
 use Rattle.table.specs.Sound.{soundTable}
-use Rattle.commands.specs.Judging.{judge}
-use Rattle.commands.specs.Changing.{changed, flagged}
-use Rattle.commands.specs.Answers.{told, answer}
+use Rattle.obeying.specs.Taking.{accepted, CommandAfter, taken}
 
 -- "Order: 5, 6, ..": the sizes first, then the table
 abbrev pub refusal : Bool → List ℕ → Verdict
 refusal sizesRight t = cond sizesRight (cond (soundTable t) Done NotSound) WrongSize
-
--- "0 | OK | done"
-abbrev pub accepted : Verdict → Bool
-accepted v = eqb (numberOf v) 0
 
 -- what a fresh call and a reading leave
 pub record TableAfter : Type 0 where
@@ -42,29 +32,6 @@ freshCall t =
     cond (eqb (length t) tableSize)
     (record { result = numberOf Done; table = freshTable })
     (record { result = numberOf WrongSize; table = t })
-
--- what a command leaves
-pub record CommandAfter : Type 0 where
-  pub result : ℕ
-  pub table : List ℕ
-  pub reply : List ℕ
-
--- "The command's result is the number plus 256 times the reply length." "Bytes past the reply stay as they were."
-abbrev pub replied : Verdict → List ℕ → List ℕ → List ℕ → CommandAfter
-replied v t text reply = record { result = numberOf v + 256 * length text; table = t; reply = put reply 0 text }
-
--- a line that is refused with a number from 1 to 4
-unfoldable pub refused : List ℕ → Verdict → List ℕ → CommandAfter
-refused t v reply = replied v (flagged t v) (told (flagged t v) v) reply
-
--- an order that is accepted: the answer is made on the table after it
-unfoldable pub obeyed : List ℕ → Order → List ℕ → CommandAfter
-obeyed t o reply = replied Done (changed t o) (answer (changed t o) o) reply
-
--- a line on a sound table: "1 .. the line has none of the forms above", then the order's verdict
-unfoldable pub taken : List ℕ → Parsed → List ℕ → CommandAfter
-taken t Nothing reply = refused t NoForm reply
-taken t (Is o) reply = cond (accepted (judge t o)) (obeyed t o reply) (refused t (judge t o) reply)
 
 -- the command call: "table not 1,088 bytes, reply buffer under 32" is 5; "5 and 6 change nothing anywhere"
 unfoldable pub commandCall : List ℕ → List ℕ → List ℕ → CommandAfter

@@ -2,17 +2,16 @@
 // and writes nothing before everything is judged. What each leaves in every buffer, for all its inputs, is one definition of
 // specs/Calls.antt.
 
-mod taking;
 mod ticking;
 
 use drive::read_switches;
+use obeying::take_line;
 use reader::read_line;
 use record::Motor;
 use table::make_fresh;
 use table::motor_at;
 use table::put_motor;
 use table::sound_table;
-use taking::take_line;
 use ticking::tick_all;
 ghost use mathlib.Core.Path.{_≡_};
 ghost use mathlib.Core.Bool.{true};

@@ -1,4 +1,5 @@
-// A line on a sound table: its order is judged, and then carried out and answered, or refused.
+// A line on a sound table: its order is judged, and then carried out and answered, or refused. What it leaves is one definition,
+// `taken` of specs/Taking.antt.
 
 use commands::changing::change;
 use commands::flags::set_flag;
@@ -29,7 +30,7 @@ ghost use Rattle.orders.specs.Values.{valueInRange};
 ghost use Rattle.table.specs.Sound.{soundTable};
 ghost use Rattle.commands.specs.Changing.{changed};
 ghost use Rattle.commands.specs.Answers.{told};
-ghost use Rattle.urqolina.specs.Calls.{replied, refused, obeyed, taken};
+ghost use Rattle.obeying.specs.Taking.{replied, refused, obeyed, taken};
 
 // The number plus 256 times the reply's length.
 fn result_of(v: Verdict, count: usize) -> u32

@@ -1,10 +1,10 @@
--- `urqolina::taking::refuse` meets its contract. Assumes nothing.
-use Rattle.urqolina.specs.Calls.{refused}
+-- `obeying::refuse` meets its contract. Assumes nothing.
+use Rattle.obeying.specs.Taking.{refused}
 use Rattle.table.proofs.KeptLaws.{sound-head-of, head-parts}
 use Rattle.table.proofs.TableLaws.{sound-length}
 use borrow.Author.Needs.{needs}
-use Rattle.urqolina.proofs.taking.refuse.Statement.{statement}
-use Rattle.urqolina.proofs.taking.refuse.Tie as tie
+use Rattle.obeying.proofs.refuse.Statement.{statement}
+use Rattle.obeying.proofs.refuse.Tie as tie
 
 set-flag-requires : tie.Need-set-flag-requires
 set-flag-requires c κs = let s = c .before .before .before .pre .0 in (sound-length _ s, head-parts _ (sound-head-of _ s) .errors, c .before .before .before .pre .2, c .before .before .before .pre .3)

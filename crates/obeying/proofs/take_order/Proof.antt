@@ -1,16 +1,15 @@
--- `urqolina::taking::take_order` meets its contract. Assumes nothing.
+-- `obeying::take_order` meets its contract. Assumes nothing.
 use native.Mathlib.Omega.{arith}
 use mathlib.Core.Path.{_≡_, sym, _∙_}
 use Prim.Native.Nat.{_≤_}
 use borrow.Author.Tests.{ne-eqb}
-use Rattle.urqolina.proofs.Refusals.{judge-number}
-use Rattle.urqolina.proofs.CallLaws.{judged-value}
-use Rattle.urqolina.specs.Calls.{taken}
+use Rattle.obeying.proofs.NumberLaws.{judged-value, judge-number}
+use Rattle.obeying.specs.Taking.{taken}
 use Rattle.drive.specs.Numbers.{numberOf}
 use Rattle.table.proofs.TableLaws.{sound-length}
 use borrow.Author.Needs.{needs}
-use Rattle.urqolina.proofs.taking.take_order.Statement.{statement}
-use Rattle.urqolina.proofs.taking.take_order.Tie as tie
+use Rattle.obeying.proofs.take_order.Statement.{statement}
+use Rattle.obeying.proofs.take_order.Tie as tie
 
 judge-order-requires : tie.Need-judge-order-requires
 judge-order-requires c κs = (sound-length _ (c .before .before .before .pre .0), c .before .before .before .pre .2)

@@ -1,11 +1,11 @@
--- `urqolina::taking::obey` meets its contract. Assumes nothing.
-use Rattle.urqolina.proofs.CallLaws.{unasked-told}
-use Rattle.urqolina.specs.Calls.{obeyed}
+-- `obeying::obey` meets its contract. Assumes nothing.
+use Rattle.obeying.proofs.TakingLaws.{unasked-told}
+use Rattle.obeying.specs.Taking.{obeyed}
 use borrow.Author.Tests.{leb-true}
 use Rattle.line.specs.Made.{orderMade}
 use borrow.Author.Needs.{needs}
-use Rattle.urqolina.proofs.taking.obey.Statement.{statement}
-use Rattle.urqolina.proofs.taking.obey.Tie as tie
+use Rattle.obeying.proofs.obey.Statement.{statement}
+use Rattle.obeying.proofs.obey.Tie as tie
 
 enum-known-o : tie.Need-enum-known-o
 enum-known-o c = search needs

@@ -1,11 +1,11 @@
--- `urqolina::taking::tell_head` meets its contract. Assumes nothing.
+-- `obeying::tell_head` meets its contract. Assumes nothing.
 use Rattle.commands.specs.Answers.{answer}
 use Rattle.commands.specs.Changing.{changed}
-use Rattle.urqolina.specs.Calls.{obeyed}
+use Rattle.obeying.specs.Taking.{obeyed}
 use Rattle.table.proofs.TableLaws.{sound-length}
 use borrow.Author.Needs.{needs}
-use Rattle.urqolina.proofs.taking.tell_head.Statement.{statement}
-use Rattle.urqolina.proofs.taking.tell_head.Tie as tie
+use Rattle.obeying.proofs.tell_head.Statement.{statement}
+use Rattle.obeying.proofs.tell_head.Tie as tie
 
 all-reply-of-requires : tie.Need-all-reply-of-requires
 all-reply-of-requires c κs = sound-length _ (c .before .before .before .pre .0)

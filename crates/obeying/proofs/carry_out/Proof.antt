@@ -1,9 +1,9 @@
--- `urqolina::taking::carry_out` meets its contract. Assumes nothing.
+-- `obeying::carry_out` meets its contract. Assumes nothing.
 use Rattle.table.proofs.KeptLaws.{sound-head-of, head-parts}
 use Rattle.table.proofs.TableLaws.{sound-length}
 use borrow.Author.Needs.{needs}
-use Rattle.urqolina.proofs.taking.carry_out.Statement.{statement}
-use Rattle.urqolina.proofs.taking.carry_out.Tie as tie
+use Rattle.obeying.proofs.carry_out.Statement.{statement}
+use Rattle.obeying.proofs.carry_out.Tie as tie
 
 change-requires : tie.Need-change-requires
 change-requires c κs = let s = c .before .before .before .pre .0 in (sound-length _ s, c .before .before .before .pre .2, c .before .before .before .pre .3, head-parts _ (sound-head-of _ s) .errors)

@@ -1,12 +1,12 @@
--- `urqolina::taking::tell_channel` meets its contract. Assumes nothing.
+-- `obeying::tell_channel` meets its contract. Assumes nothing.
 use Rattle.commands.specs.Answers.{answer}
 use Rattle.commands.specs.Changing.{changed}
-use Rattle.urqolina.specs.Calls.{obeyed}
-use Rattle.urqolina.proofs.CallLaws.{setup-sound}
+use Rattle.obeying.specs.Taking.{obeyed}
+use Rattle.obeying.proofs.TakingLaws.{setup-sound}
 use Rattle.table.proofs.TableLaws.{sound-length, sound-motor-at}
 use borrow.Author.Needs.{needs}
-use Rattle.urqolina.proofs.taking.tell_channel.Statement.{statement}
-use Rattle.urqolina.proofs.taking.tell_channel.Tie as tie
+use Rattle.obeying.proofs.tell_channel.Statement.{statement}
+use Rattle.obeying.proofs.tell_channel.Tie as tie
 
 mode-of-requires : tie.Need-mode-of-requires
 mode-of-requires c κs = sound-length _ (c .before .before .before .pre .0)

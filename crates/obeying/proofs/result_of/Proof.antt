@@ -1,9 +1,9 @@
--- `urqolina::taking::result_of` meets its contract. Assumes nothing.
+-- `obeying::result_of` meets its contract. Assumes nothing.
 use native.Mathlib.Omega.{arith}
-use Rattle.urqolina.proofs.CallLaws.{number-most}
+use Rattle.obeying.proofs.NumberLaws.{number-most}
 use borrow.Author.Needs.{needs}
-use Rattle.urqolina.proofs.taking.result_of.Statement.{statement}
-use Rattle.urqolina.proofs.taking.result_of.Tie as tie
+use Rattle.obeying.proofs.result_of.Statement.{statement}
+use Rattle.obeying.proofs.result_of.Tie as tie
 
 number-of-requires : tie.Need-number-of-requires
 number-of-requires c κs = search needs

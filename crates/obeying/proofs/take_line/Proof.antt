@@ -1,10 +1,10 @@
--- `urqolina::taking::take_line` meets its contract. Assumes nothing.
+-- `obeying::take_line` meets its contract. Assumes nothing.
 use native.Mathlib.Omega.{arith}
-use Rattle.urqolina.specs.Calls.{taken}
+use Rattle.obeying.specs.Taking.{taken}
 use Rattle.drive.specs.Numbers.{numberOf}
 use borrow.Author.Needs.{needs}
-use Rattle.urqolina.proofs.taking.take_line.Statement.{statement}
-use Rattle.urqolina.proofs.taking.take_line.Tie as tie
+use Rattle.obeying.proofs.take_line.Statement.{statement}
+use Rattle.obeying.proofs.take_line.Tie as tie
 
 enum-known-p : tie.Need-enum-known-p
 enum-known-p c = search needs

@@ -1,0 +1,2 @@
+pub mod NumberLaws
+pub mod TakingLaws
