@@ -11,7 +11,7 @@ ghost use Prim.Native.Nat.{_*_, _≤_};
 ghost use lib.ListN.{length};
 ghost use Rattle.digits.specs.Bytes.{put};
 ghost use Rattle.digits.specs.Words.{wordBytes};
-ghost use Rattle.drive.specs.Ticks.{tickMotor, tickCount};
+ghost use Rattle.pulses.specs.Ticks.{tickMotor, tickCount};
 ghost use Rattle.table.specs.Layout.{tableSize, motorAt, withMotor, withMotors};
 ghost use Rattle.urqolina.specs.Calls.{counts};
 
