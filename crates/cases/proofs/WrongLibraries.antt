@@ -35,6 +35,7 @@ use Rattle.laws.specs.Numbers.{Numbers, Replies}
 use Rattle.laws.specs.Neighbours.{Neighbours}
 use Rattle.laws.specs.ReadBack.{ReadsBack}
 use Rattle.laws.specs.Pulses.{motorNow, accountNow, travelNow, settingsNow, Ends, byStop, bySwitch, byTarget, byRoom, Demand3, Settled}
+use Rattle.laws.proofs.TravelLaws.{isTick}
 use Rattle.cases.proofs.LedgerCases.{lentTable, says, ticked}
 
 -- Demand 3 for every channel and every sequence, and read-back for every sequence and every read that is lent enough.
@@ -109,7 +110,7 @@ refuses-ticks-refused =
     too-few refusesTicks (says "REM" ∷ says "SCANP0" ∷ tick (replicate 64 0) ∷ tick (replicate 64 0) ∷ [])
     (record { lasts = true; going = cw; speed = 800; sum = 1600; pulses = 0 }) refl refl (omega arith)
 
--- a deed is a start; it is a tick
+-- a deed is a start
 abbrev pub isStart : Deed → Bool
 isStart (starts s) = true
 isStart (stops flags) = false
@@ -118,15 +119,6 @@ isStart (sets s) = false
 isStart (reads n) = false
 isStart ticks = false
 isStart rests = false
-
-abbrev isTick : Deed → Bool
-isTick (starts s) = false
-isTick (stops flags) = false
-isTick (speeds v) = false
-isTick (sets s) = false
-isTick (reads n) = false
-isTick ticks = true
-isTick rests = false
 
 -- A drive that stands still at +1 while its ticks come, at 1000 pps: with the second tick S = 2000 is a thousand above 1000 · P, and
 -- has to be less.
@@ -277,7 +269,7 @@ abbrev scanning : List Call
 scanning = says "REM" ∷ says "SCANP0" ∷ []
 
 nothing-ended : Ends endsDrives lentTable 0 scanning ticked → ⊥
-unfolding computing-laws
+unfolding computing-laws isTick
 nothing-ended (byStop flags e f) = absurd (false≢true (sym (ap isTick e)))
 nothing-ended (bySwitch n e h f) = absurd (false≢true (sym (ap isTick e)))
 nothing-ended (byTarget e h there f) = absurd (false≢true h)
