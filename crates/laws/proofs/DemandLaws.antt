@@ -3,6 +3,7 @@ use Rattle.laws.specs.Sequences.{urqolina}
 use Rattle.laws.specs.Demands.{Demands}
 use Rattle.laws.proofs.NumberLaws.{numbers}
 use Rattle.laws.proofs.NeighbourLaws.{neighbours}
+use Rattle.laws.proofs.ChangeLaws.{changes}
 use Rattle.laws.proofs.AnswerLaws.{replies}
 use Rattle.laws.proofs.ReadBackLaws.{reads-back}
 use Rattle.laws.proofs.SettledLaws.{settled-so}
@@ -14,6 +15,7 @@ pub demands : Demands urqolina
 demands =
     record {
       numbers = numbers;
+      changes = changes;
       replies = replies;
       neighbours = neighbours;
       readBack = reads-back;

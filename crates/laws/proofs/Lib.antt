@@ -13,4 +13,6 @@ pub mod SettingLaws
 pub mod ReadBackLaws
 pub mod AnswerLaws
 pub mod SettledLaws
+pub mod ChangeLaws
 pub mod DemandLaws
+pub mod OneLibrary

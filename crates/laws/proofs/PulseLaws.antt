@@ -1,5 +1,5 @@
 -- Demand 3, for every channel and every sequence of calls after a fresh one. Assumes nothing.
-use mathlib.Core.Path.{_≡_, refl, sym, _∙_}
+use mathlib.Core.Path.{_≡_, refl, sym, ap, _∙_}
 use mathlib.Core.List.{List, [], _∷_}
 use mathlib.Core.Bool.{Bool, true, false, _&&_, cond, false≢true}
 use mathlib.Core.Logic.{_⊎_, inl, inr, ⊎-elim}
@@ -16,14 +16,18 @@ use Rattle.motor.specs.Sound.{aimRight, driving, soundMotor}
 use Rattle.motor.proofs.SoundLaws.{sound-driving, sound-bounds}
 use Rattle.motor.proofs.RoomLaws.{moved-ahead, room-moved}
 use Rattle.pulses.specs.declared.Ticked.{Ticked}
-use Rattle.drive.specs.Drives.{lsend, started, endedWith, stopped, contacted, switchRead, speedChanged}
+use Rattle.drive.specs.declared.Verdict.the-variants.{Done}
+use Rattle.drive.specs.Drives.{lsend, judgeStart, started, endedWith, stopped, contacted, switchRead, speedChanged}
 use Rattle.pulses.specs.Ticks.{toTarget, distanceLeft, roomLeft, given, tickMotor, tickCount}
 use Rattle.pulses.proofs.Laws.{given-room, given-distance, stopped-given-none}
-use Rattle.drive.proofs.Laws.{stopped-none}
+use Rattle.drive.proofs.Laws.{stopped-again, stopped-none}
 use Rattle.pulses.proofs.TickSound.{pulses-bound}
 use Rattle.pulses.proofs.TickLaws.{Way, rests, arrives, ends, goes, way, reached-all, room-all}
 use Rattle.line.specs.declared.Start.{Start}
-use Rattle.orders.specs.Settings.{courseOf}
+use Rattle.line.specs.declared.Setting.{Setting}
+use Rattle.line.specs.declared.Setting.the-variants.{Preset, SetCwLimit, SetCcwLimit, Select, SetSpeed, SetSwitches, SetMotor}
+use Rattle.line.specs.Made.{startMade}
+use Rattle.orders.specs.Settings.{courseOf, withSetting}
 use Rattle.table.specs.Layout.{tableSize, motorAt, freshTable}
 use Rattle.table.specs.Sound.{soundTable}
 use Rattle.table.proofs.KeptLaws.{fresh-sound}
@@ -34,9 +38,9 @@ use Rattle.laws.specs.Deeds.{Deed, deed}
 use Rattle.laws.specs.Ledger.{countAt, cwPulses, ccwPulses, against, wayOf, Account, noDrive, setsOff, entered, account, Travel, noTravel, moving, travel}
 use Rattle.laws.specs.Pulses.{Demand3, Ends, byStop, bySwitch, byTarget, byRoom}
 use Rattle.laws.proofs.PartLaws.{fresh-motor}
-use Rattle.laws.proofs.DeedLaws.{performed, Fits, fits-start, fits-set}
+use Rattle.laws.proofs.DeedLaws.{performed, Fits, fits-start, fits-speed, fits-set}
 use Rattle.laws.proofs.Following.{Follows, next}
-use Rattle.laws.proofs.AccountLaws.{Leaves, leaves, off-leaves, Balanced, performed-balanced}
+use Rattle.laws.proofs.AccountLaws.{Leaves, leaves, off-leaves, off-stays, Balanced, performed-balanced}
 use Rattle.laws.proofs.TravelLaws.{counted, tick-counted, count-read, tick-count, Kept, performed-kept}
 use Rattle.laws.proofs.LastingLaws.{made-fresh, ran-sound}
 
@@ -155,6 +159,37 @@ capped m s d = let n = rw d at (tick-counted m s) in rw n (given-room m, given-d
 stop-so : (m : Motor) (flags : ℕ) → soundMotor m ≡ true → (driving (stopped flags m) ≡ false) × (driving m ≡ true → stopped flags m .ended ≡ flags)
 stop-so m flags s = (rw (stopped-none flags m s), λ d. unfold stopped in rw d)
 
+-- No setting touches the end flags.
+set-flags : (m : Motor) (s : Setting) → withSetting m s .ended ≡ m .ended
+unfolding withSetting
+set-flags m (Preset w) = refl
+set-flags m (SetCwLimit w) = refl
+set-flags m (SetCcwLimit w) = refl
+set-flags m (Select k) = refl
+set-flags m (SetSpeed k v) = refl
+set-flags m (SetSwitches q r) = refl
+set-flags m (SetMotor q) = refl
+
+-- A motor that stands stopped before a deed and after it keeps its end flags.
+start-flags : (m : Motor) (s : Start) → soundMotor m ≡ true → judgeStart m (courseOf m s) ≡ Done → startMade s ≡ true
+    → driving (started m (courseOf m s)) ≡ false → started m (courseOf m s) .ended ≡ m .ended
+start-flags m s o j r n = go (setsOff m s) refl
+  where
+    go : (b : Bool) → setsOff m s ≡ b → started m (courseOf m s) .ended ≡ m .ended
+    go true off = absurd (false≢true (sym n ∙ leaves-driving m (started m (courseOf m s)) (wayOf m s) (off-leaves m s o j r off)))
+    go false off = rw (off-stays m s off)
+
+flags-kept : (m : Motor) (d : Deed) → soundMotor m ≡ true → Fits m d → driving m ≡ false → driving (performed m d) ≡ false
+    → performed m d .ended ≡ m .ended
+unfolding performed
+flags-kept m (D.starts s) o (fits-start _ still j w r) e n = start-flags m s o j r n
+flags-kept m (D.stops flags) o f e n = rw (stopped-again flags m e)
+flags-kept m (D.speeds v) o (fits-speed _ moves j) e n = absurd (false≢true (sym e ∙ moves))
+flags-kept m (D.sets s) o f e n = set-flags m s
+flags-kept m (D.reads c) o f e n = read-ways m c (λ b x. x .ended ≡ m .ended) (λ q. absurd (false≢true (sym e ∙ q))) (λ q. refl) (λ b q. refl)
+flags-kept m D.ticks o f e n = ap (λ (x : Ticked). x .motor .ended) (stopped-given-none m e)
+flags-kept m D.rests o f e n = refl
+
 -- Demand 3, after the calls ks.
 module _ (b : List ℕ) (whole : length b ≡ tableSize) (c : ℕ) (on : c ≤ 15) (ks : List Call) where
   abbrev t : List ℕ
@@ -212,6 +247,10 @@ module _ (b : List ℕ) (whole : length b ≡ tableSize) (c : ℕ) (on : c ≤ 1
           ⊎-elim (λ r. byTarget e (r .0) (rw q (r .1)) (rw q (r .2))) (λ r. byRoom e (rw q (r .0)) (rw q (r .1))) (tick-ends m o d (rw q at h))
       go D.rests e q f = absurd (false≢true (sym (rw q at h) ∙ d))
 
+  flags : (k : Call) → driving m ≡ false → driving (motorAt (after urqolina t k .table) c) ≡ false
+      → motorAt (after urqolina t k .table) c .ended ≡ m .ended
+  flags k d h = let f = next t k s .follows c on in rw (f .motor) (flags-kept m (deed c t k) o (f .fits) d (rw (f .motor) at h))
+
   pub demand-3 : Demand3 urqolina b c ks
   demand-3 =
       record {
@@ -225,6 +264,7 @@ module _ (b : List ℕ) (whole : length b ≡ tableSize) (c : ℕ) (on : c ≤ 1
         stopping = stopping;
         switching = switching;
         within = λ d p long. rw (count-read t p c s long on) (capped m o d);
+        flags = flags;
         none = λ d p long. rw (count-read t p c s long on) (stopped-count m d);
         position = kept;
       }

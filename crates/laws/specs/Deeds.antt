@@ -84,6 +84,7 @@ deedOf c (AskHead q) = rests
 deedOf c ClearErrors = rests
 deedOf c (ClearError e) = rests
 
+-- what is carried out is to channel c what its order is; nothing carried out is nothing
 abbrev pub deedTaken : ℕ → Parsed → Deed
 deedTaken c (Is o) = deedOf c o
 deedTaken c Nothing = rests

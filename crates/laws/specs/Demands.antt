@@ -7,7 +7,7 @@ use lib.ListN.{length}
 use Rattle.table.specs.Layout.{tableSize}
 use Rattle.table.specs.Sound.{soundTable}
 use Rattle.laws.specs.Sequences.{Library, Call}
-use Rattle.laws.specs.Numbers.{Numbers, Replies}
+use Rattle.laws.specs.Numbers.{Numbers, Replies, Changes}
 use Rattle.laws.specs.Neighbours.{Neighbours}
 use Rattle.laws.specs.ReadBack.{ReadsBack}
 use Rattle.laws.specs.Pulses.{Lasting, Demand3, Settled, LastTick}
@@ -18,6 +18,7 @@ pub record Demands (l : Library) : Type 0 where
   pub numbers : Numbers l
   -- 2. "Commands, replies, switch readings and ticks do what document 01 takes from the PM16C manuals: which lines are accepted, what
   -- each changes, what is answered."
+  pub changes : Changes l
   pub replies : (t line reply : List ℕ) (sound : soundTable t ≡ true) (enough : 32 ≤ length reply) → Replies l t line reply sound enough
   pub neighbours : Neighbours l
   -- "An accepted setting reads back with its value until something changes it."

@@ -8,6 +8,8 @@ use lib.Dec.{eqb, leb}
 use Rattle.digits.specs.Bytes.{put}
 use Rattle.digits.specs.Words.{withBit}
 use Rattle.drive.specs.Numbers.{numberOf}
+use Rattle.drive.specs.Drives.{switchRead}
+use Rattle.pulses.specs.Ticks.{tickMotor}
 use Rattle.line.specs.declared.Question.{Question}
 use Rattle.line.specs.declared.HeadQuestion.{HeadQuestion}
 use Rattle.line.specs.declared.Order.{Order}
@@ -15,9 +17,11 @@ use Rattle.line.specs.declared.Order.the-variants.{Go, Stop, StopAll, ChangeSpe
 use Rattle.line.specs.declared.Parsed.the-variants.{Is, Nothing}
 use Rattle.line.specs.Forms.{orderOf}
 use Rattle.replies.specs.Replies.{echo, questionText, headText}
-use Rattle.table.specs.Layout.{tableSize, mode, allReply, errors, withErrors, motorAt, freshTable}
+use Rattle.table.specs.Layout.{tableSize, mode, allReply, errors, withErrors, motorAt, withMotor, withMotors, freshTable}
 use Rattle.table.specs.Sound.{soundTable}
 use Rattle.commands.specs.Judging.{judge}
+use Rattle.commands.specs.Changing.{changed}
+use Rattle.urqolina.specs.Calls.{counts}
 use Rattle.laws.specs.Sequences.{Library, Call, command, reading, tick, after}
 use Rattle.laws.specs.Deeds.{verdict, reads, orderTaken}
 use Rattle.laws.specs.ReadBack.{isSome}
@@ -92,3 +96,15 @@ module _ (l : Library) (t line reply : List ℕ) (sound : soundTable t ≡ true)
     pub others : isSome asks (orderOf line) ≡ false
         → let a = after l t (command line reply) in let text = echo (allReply (a .table)) (verdict t (orderOf line)) in
         (a .result ≡ numberOf (verdict t (orderOf line)) + 256 * length text) × (a .buffer ≡ put reply 0 text)
+
+-- Demand 2, what an accepted call changes, on any sound table
+pub record Changes (l : Library) : Type 0 where
+  -- "what each changes": the table after an order that the rules accept
+  pub orders : (t line reply : List ℕ) (o : Order) → sizesRight t (command line reply) ≡ true → soundTable t ≡ true → orderOf line ≡ Is o
+      → numberOf (judge t o) ≡ 0 → l .command t line reply .table ≡ changed t o
+  -- "A switch reading replaces the contacts", and may end the drive
+  pub readings : (t : List ℕ) (c n : ℕ) → sizesRight t (reading c n) ≡ true → soundTable t ≡ true
+      → l .reading t c n .table ≡ withMotor t c (switchRead (motorAt t c) n)
+  -- "For each driving channel" one tick, and its count
+  pub ticks : (t p : List ℕ) → sizesRight t (tick p) ≡ true → soundTable t ≡ true
+      → (l .tick t p .table ≡ withMotors t (λ m. tickMotor m .motor)) × (l .tick t p .pulses ≡ counts t)

@@ -76,6 +76,8 @@ module _ (l : Library) (b : List ℕ) (c : ℕ) (ks : List Call) where
     -- "Pulses given are the least of due, room and, for a target, the distance left": no tick goes past either
     pub within : driving motorNow ≡ true → (p : List ℕ) → length p ≡ 64 → let n = countAt (l .tick tableNow p .pulses) c in
         (cwPulses n + ccwPulses n ≤ roomLeft motorNow) × (toTarget motorNow ≡ true → cwPulses n + ccwPulses n ≤ distanceLeft motorNow)
+    -- the end flags stay until the next start
+    pub flags : (k : Call) → driving motorNow ≡ false → driving (motorNext k) ≡ false → motorNext k .ended ≡ motorNow .ended
     -- "A motor that stands stopped when the tick comes gets none."
     pub none : driving motorNow ≡ false → (p : List ℕ) → length p ≡ 64 → countAt (l .tick tableNow p .pulses) c ≡ 0
     -- "Each channel's position is its last accepted preset, or zero, plus the CW pulses given since, less the CCW pulses."

@@ -110,6 +110,7 @@ replyOrder (AskHead q) = false
 replyOrder ClearErrors = false
 replyOrder (ClearError e) = false
 
+-- a test of an order, where there is one
 abbrev pub isSome : (Order → Bool) → Parsed → Bool
 isSome test (Is o) = test o
 isSome test Nothing = false

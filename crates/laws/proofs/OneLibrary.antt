@@ -1,0 +1,119 @@
+-- No wrong library meets the demands: whatever meets them leaves, after every call on every table, what ours leaves. Assumes
+-- nothing.
+use mathlib.Core.Path.{_≡_, refl, sym, _∙_}
+use mathlib.Core.List.{List}
+use mathlib.Core.Bool.{Bool, true, false}
+use Prim.Native.Nat.{ℕ, _%_, _≤_}
+use native.Mathlib.Omega.{arith}
+use lib.ListN.{length}
+use lib.Dec.{eqb, leb}
+use borrow.Author.Tests.{leb-true, eqb-true, eqb-false}
+use Rattle.motor.proofs.SoundLaws.{and-r}
+use Rattle.drive.specs.Numbers.{numberOf}
+use Rattle.line.specs.declared.Question.{Question}
+use Rattle.line.specs.declared.HeadQuestion.{HeadQuestion}
+use Rattle.line.specs.declared.Order.{Order}
+use Rattle.line.specs.declared.Order.the-variants.{Go, Stop, StopAll, ChangeSpeed, Set, Ask, Mode, AllReply, AskHead, ClearErrors, ClearError}
+use Rattle.line.specs.declared.Parsed.{Parsed}
+use Rattle.line.specs.declared.Parsed.the-variants.{Is, Nothing}
+use Rattle.line.specs.Forms.{orderOf}
+use Rattle.table.specs.Layout.{tableSize}
+use Rattle.table.specs.Sound.{soundTable}
+use Rattle.commands.specs.Judging.{judge}
+use Rattle.obeying.proofs.NumberLaws.{judge-number}
+use Rattle.laws.specs.Sequences.{Library, urqolina, Call, command, reading, tick, After, after}
+use Rattle.laws.specs.ReadBack.{isSome}
+use Rattle.laws.specs.Numbers.{sizesRight, asks}
+use Rattle.laws.specs.Demands.{Demands}
+use Rattle.laws.proofs.DemandLaws.{demands}
+
+-- Two outcomes with the same result, table and buffer are the same.
+same-after : (a b : After) → a .result ≡ b .result → a .table ≡ b .table → a .buffer ≡ b .buffer → a ≡ b
+same-after a b r t u = rw (r, t, u)
+
+-- A read, or another order.
+data Asked : Order → Type 0 where
+  asks-channel : (x : ℕ) (q : Question) → Asked (Ask x q)
+  asks-head : (q : HeadQuestion) → Asked (AskHead q)
+  unasked : (o : Order) → asks o ≡ false → Asked o
+
+asked : (o : Order) → Asked o
+unfolding asks
+asked (Go x s) = unasked (Go x s) refl
+asked (Stop x flags) = unasked (Stop x flags) refl
+asked (StopAll flags) = unasked (StopAll flags) refl
+asked (ChangeSpeed x v) = unasked (ChangeSpeed x v) refl
+asked (Set x s) = unasked (Set x s) refl
+asked (Ask x q) = asks-channel x q
+asked (Mode k) = unasked (Mode k) refl
+asked (AllReply k) = unasked (AllReply k) refl
+asked (AskHead q) = asks-head q
+asked ClearErrors = unasked ClearErrors refl
+asked (ClearError e) = unasked (ClearError e) refl
+
+module _ (l : Library) (d : Demands l) where
+  -- a line on a sound table, with the sizes right
+  module _ (t line reply : List ℕ) (e : sizesRight t (command line reply) ≡ true) (s : soundTable t ≡ true) where
+    enough : 32 ≤ length reply
+    enough = leb-true 32 (length reply) (and-r (eqb (length t) tableSize) (leb 32 (length reply)) e)
+
+    -- Where the tables are the same, the result and the reply of a line that is no read are.
+    from-table : isSome asks (orderOf line) ≡ false → l .command t line reply .table ≡ urqolina .command t line reply .table
+        → after l t (command line reply) ≡ after urqolina t (command line reply)
+    unfolding after
+    from-table n u =
+        let mine = d .replies t line reply s enough .others n in
+        let ours = demands .replies t line reply s enough .others n in
+        same-after _ _ (mine .0 ∙ rw u (sym (ours .0))) u (mine .1 ∙ rw u (sym (ours .1)))
+
+    -- A refusal with the number n leaves the same table.
+    refused-table : (n : ℕ) → 1 ≤ n → n ≤ 4 → l .command t line reply .result % 256 ≡ n → urqolina .command t line reply .result % 256 ≡ n
+        → l .command t line reply .table ≡ urqolina .command t line reply .table
+    refused-table n low high p q = d .numbers .flags t line reply n low high p ∙ sym (demands .numbers .flags t line reply n low high q)
+
+    ordered : (o : Order) → orderOf line ≡ Is o → Asked o → after l t (command line reply) ≡ after urqolina t (command line reply)
+    ordered _ q (asks-channel x k) = d .replies t line reply s enough .reads x k q ∙ sym (demands .replies t line reply s enough .reads x k q)
+    ordered _ q (asks-head k) = d .replies t line reply s enough .headReads k q ∙ sym (demands .replies t line reply s enough .headReads k q)
+    ordered o q (unasked _ n) = from-table (rw q n) (go (eqb (numberOf (judge t o)) 0) refl)
+      where
+        go : (b : Bool) → eqb (numberOf (judge t o)) 0 ≡ b → l .command t line reply .table ≡ urqolina .command t line reply .table
+        go true z =
+            let done = eqb-true (numberOf (judge t o)) 0 z in
+            d .changes .orders t line reply o e s q done ∙ sym (demands .changes .orders t line reply o e s q done)
+        go false z =
+            refused-table (numberOf (judge t o)) (omega (arith, eqb-false (numberOf (judge t o)) 0 z)) (judge-number t o)
+            (d .numbers .judged t line reply o e s q) (demands .numbers .judged t line reply o e s q)
+
+    lined : (p : Parsed) → orderOf line ≡ p → after l t (command line reply) ≡ after urqolina t (command line reply)
+    lined (Is o) q = ordered o q (asked o)
+    lined Nothing q =
+        from-table (rw q refl)
+        (refused-table 1 (omega arith) (omega arith) (d .numbers .formless t line reply e s q) (demands .numbers .formless t line reply e s q))
+
+  -- a call on a sound table, with the sizes right
+  accepted : (t : List ℕ) (k : Call) → sizesRight t k ≡ true → soundTable t ≡ true → after l t k ≡ after urqolina t k
+  accepted t (command line reply) e s = lined t line reply e s (orderOf line) refl
+  accepted t (reading c n) e s =
+      same-after _ _ (d .numbers .done t (reading c n) refl e s ∙ sym (demands .numbers .done t (reading c n) refl e s))
+      (unfold after in d .changes .readings t c n e s ∙ sym (demands .changes .readings t c n e s)) (unfold after in refl)
+  accepted t (tick p) e s =
+      let mine = d .changes .ticks t p e s in
+      let ours = demands .changes .ticks t p e s in
+      same-after _ _ (d .numbers .done t (tick p) refl e s ∙ sym (demands .numbers .done t (tick p) refl e s))
+      (unfold after in mine .0 ∙ sym (ours .0)) (unfold after in mine .1 ∙ sym (ours .1))
+
+  -- Every call, on any table and with any inputs, leaves what ours leaves.
+  pub one-library : (t : List ℕ) (k : Call) → after l t k ≡ after urqolina t k
+  one-library t k = go (sizesRight t k) refl (soundTable t) refl
+    where
+      go : (a : Bool) → sizesRight t k ≡ a → (b : Bool) → soundTable t ≡ b → after l t k ≡ after urqolina t k
+      go false e b s = d .numbers .sizes t k e ∙ sym (demands .numbers .sizes t k e)
+      go true e false s = d .numbers .unsound t k e s ∙ sym (demands .numbers .unsound t k e s)
+      go true e true s = accepted t k e s
+
+  pub one-fresh : (b : List ℕ) → l .fresh b ≡ urqolina .fresh b
+  one-fresh b = go (eqb (length b) tableSize) refl
+    where
+      go : (a : Bool) → eqb (length b) tableSize ≡ a → l .fresh b ≡ urqolina .fresh b
+      go true e = let w = eqb-true (length b) tableSize e in d .numbers .freshMade b w ∙ sym (demands .numbers .freshMade b w)
+      go false e = let w = eqb-false (length b) tableSize e in d .numbers .freshRefused b w ∙ sym (demands .numbers .freshRefused b w)
