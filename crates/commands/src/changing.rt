@@ -7,6 +7,7 @@ use drive::stop;
 use line::Order;
 use line::Setting;
 use line::Start;
+use motor::is_driving;
 use orders::settings::course_of;
 use orders::settings::speed_written;
 use orders::settings::with_setting;
@@ -15,17 +16,19 @@ use table::head::set_all_reply;
 use table::head::set_errors;
 use table::head::set_mode;
 use table::motor_at;
+use table::put_drive;
 use table::put_motor;
 ghost use mathlib.Core.Path.{_≡_};
 ghost use mathlib.Core.Bool.{true};
 ghost use Prim.Native.Nat.{_≤_};
 ghost use lib.ListN.{length};
-ghost use Rattle.motor.specs.Sound.{isSpeed};
+ghost use Rattle.motor.specs.Sound.{isSpeed, soundRecord};
 ghost use Rattle.drive.specs.Drives.{started, stopped, speedChanged};
 ghost use Rattle.line.specs.Made.{orderMade};
 ghost use Rattle.orders.specs.Values.{startInRange, settingInRange, valueInRange};
 ghost use Rattle.orders.specs.Settings.{courseOf, withSetting};
-ghost use Rattle.table.specs.Layout.{tableSize, errors, motorAt, withMotor, withMotors};
+ghost use Rattle.table.specs.Layout.{tableSize, recordAt, motorAt, withMotor, withMotors};
+ghost use Rattle.table.specs.Sound.{soundTable};
 ghost use Rattle.commands.specs.Changing.{changed};
 
 // Starts a channel.
@@ -37,18 +40,20 @@ fn make_start(t: &mut [u8], x: u8, s: Start)
     put_motor(t, x, start(m, course_of(m, s)));
 }
 
-// Stops a channel; a stopped one stays as it is.
+// Stops a channel; the record of a stopped one is left unwritten.
 fn make_stop(t: &mut [u8], x: u8, flags: u8)
-    requires { ⌜ (length (now t) ≡ tableSize) × (x ≤ 15) ⌝ }
+    requires { ⌜ (length (now t) ≡ tableSize) × (x ≤ 15) × (soundRecord (recordAt (now t) x) ≡ true) ⌝ }
     ensures { λ _. ⌜ now (t .exit) ≡ withMotor (now (t .entry)) x (stopped flags (motorAt (now (t .entry)) x)) ⌝ }
 {
     let m = motor_at(t, x);
-    put_motor(t, x, stop(m, flags));
+    if is_driving(m) {
+        put_drive(t, x, stop(m, flags));
+    }
 }
 
 // Stops every channel.
 fn stop_all(t: &mut [u8], flags: u8)
-    requires { ⌜ length (now t) ≡ tableSize ⌝ }
+    requires { ⌜ soundTable (now t) ≡ true ⌝ }
     ensures { λ _. ⌜ now (t .exit) ≡ withMotors (now (t .entry)) (stopped flags) ⌝ }
 {
     let mut x: u8 = 0;
@@ -76,9 +81,9 @@ fn make_setting(t: &mut [u8], x: u8, s: Setting)
     put_motor(t, x, with_setting(m, s));
 }
 
-// What an accepted order changes. Reads change nothing.
+// What an accepted order changes in a sound table. Reads change nothing.
 pub fn change(t: &mut [u8], o: Order)
-    requires { ⌜ (length (now t) ≡ tableSize) × (orderMade o ≡ true) × (valueInRange o ≡ true) × (errors (now t) ≤ 15) ⌝ }
+    requires { ⌜ (soundTable (now t) ≡ true) × (orderMade o ≡ true) × (valueInRange o ≡ true) ⌝ }
     ensures { λ _. ⌜ now (t .exit) ≡ changed (now (t .entry)) o ⌝ }
 {
     match o {

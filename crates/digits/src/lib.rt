@@ -16,13 +16,6 @@ pub fn choose(t: bool, a: u32, b: u32) -> u32
     if t { a } else { b }
 }
 
-// One of two tests, by a test.
-pub fn choose_test(t: bool, a: bool, b: bool) -> bool
-    ensures { λ r. ⌜ r ≡ cond t a b ⌝ }
-{
-    if t { a } else { b }
-}
-
 // What is left of a after b is taken away: nothing where b is larger.
 pub fn less(a: u32, b: u32) -> u32
     ensures { λ r. ⌜ r ≡ a - b ⌝ }

@@ -31,6 +31,14 @@ pub fn long_at(s: &[u8], at: usize) -> u32
     (short_at(s, at) as u32) + 65536 * (short_at(s, at + 2) as u32)
 }
 
+// The number in the eight bytes from a place on.
+pub fn wide_at(s: &[u8], at: usize) -> u64
+    requires { ⌜ at + 8 ≤ length (now s) ⌝ }
+    ensures { λ r. ⌜ r ≡ word (part (now (s .entry)) at 8) ⌝ }
+{
+    (long_at(s, at) as u64) + 4294967296 * (long_at(s, at + 4) as u64)
+}
+
 // Writes a byte at a place.
 pub fn put_byte(s: &mut [u8], at: usize, n: u8)
     requires { ⌜ at + 1 ≤ length (now s) ⌝ }

@@ -1,22 +1,17 @@
 -- Laws of the table of forms, for the functions that hold it as a `match` on a word. Assumes nothing.
 use mathlib.Core.Path.{_≡_, refl, sym, _∙_}
-use mathlib.Core.List.{List, [], _∷_, _++_, map, head-eq-of-cons-eq, tail-eq-of-cons-eq}
+use mathlib.Core.List.{List, [], _∷_, _++_, map, append-nil, head-eq-of-cons-eq, tail-eq-of-cons-eq}
 use mathlib.Core.Bool.{Bool, true, false, _&&_, _||_, cond, and-eq-true-iff, false≢true}
 use mathlib.Core.Logic.{inl, inr}
-use Prim.Native.Nat.{ℕ}
-use Prim.Native.String as S
-use lib.Dec.{eqb}
+use Prim.Native.Nat.{ℕ, zero, suc, _+_, _<_, _≤_}
+use native.Mathlib.Omega.{arith}
+use lib.ListN.{drop, drop-of-length-le}
+use lib.Dec.{eqb, leb}
 use types.Run.{OneOf}
-use borrow.Author.Tests.{eq-eqb, ne-eqb}
-use Rattle.text.specs.Text.{bytes}
-use Rattle.line.specs.declared.Fields.{Fields}
-use Rattle.line.specs.declared.Parsed.{Parsed}
-use Rattle.line.specs.Forms.{Row, those}
-use Rattle.form.specs.Table.{packed, rowsWith, orderBy}
-
--- quoted words, by their letters
-abbrev pub words : List S.String → List ℕ
-words ws = map (λ w. packed (bytes w)) ws
+use borrow.Author.Tests.{eq-eqb, ne-eqb, leb-true, leb-false}
+use Rattle.line.specs.Forms.{Row, forms, those}
+use Rattle.form.specs.Table.{packed, rowsWith}
+use Rattle.form.specs.Computing.{computing-form}
 
 -- a number is one of some
 abbrev pub among : ℕ → List ℕ → Bool
@@ -48,13 +43,6 @@ one-among (k ∷ j ∷ ks) n (inr h) = rw (one-among (j ∷ ks) n h) (or-true (e
     or-true true = refl
     or-true false = refl
 
--- What an arm of several numbers says of each: a function that has one value at all of them has it there.
-pub all-of : {A : Type 0} (F : ℕ → A) (v : A) (ks : List ℕ) (n : ℕ) → map F ks ≡ map (λ k. v) ks → OneOf ks n → F n ≡ v
-all-of F v [] n e h = absurd h
-all-of F v (k ∷ []) n e h = rw h (head-eq-of-cons-eq e)
-all-of F v (k ∷ j ∷ ks) n e (inl h) = rw h (head-eq-of-cons-eq e)
-all-of F v (k ∷ j ∷ ks) n e (inr h) = all-of F v (j ∷ ks) n (tail-eq-of-cons-eq e) h
-
 -- What is known after the arms of a `match`, the last arm first: the number is none of theirs.
 abbrev pub Rest : List (List ℕ) → ℕ → Type 0
 Rest [] n = Unit {0}
@@ -74,23 +62,52 @@ abbrev pub covered : List ℕ → List Row → Bool
 covered ks [] = true
 covered ks (r ∷ rs) = among (packed (r .word)) ks && covered ks rs
 
--- Letters that are none of the rows' words have no row.
+-- Letters that are none of the rows' words have no row among them, whatever rows come after.
+pub none-before : (ks : List ℕ) (a b : List Row) (n : ℕ) → covered ks a ≡ true → among n ks ≡ false → rowsWith n (a ++ b) ≡ rowsWith n b
+unfolding rowsWith those
+none-before ks [] b n h e = refl
+none-before ks (r ∷ a) b n h e =
+    let both = and-eq-true-iff (among (packed (r .word)) ks) (covered ks a) .0 h in
+    let other : eqb (packed (r .word)) n ≡ false = ne-eqb (packed (r .word)) n (λ q. false≢true (sym e ∙ (rw q at (both .0)))) in
+    rw other (none-before ks a b n (both .1) e)
+
 pub none-with : (ks : List ℕ) (rs : List Row) (n : ℕ) → covered ks rs ≡ true → among n ks ≡ false → rowsWith n rs ≡ []
 unfolding rowsWith those
-none-with ks [] n h a = refl
-none-with ks (r ∷ rs) n h a =
-    let both = and-eq-true-iff (among (packed (r .word)) ks) (covered ks rs) .0 h in
-    let e : eqb (packed (r .word)) n ≡ false = ne-eqb (packed (r .word)) n (λ q. false≢true (sym a ∙ (rw q at (both .0)))) in
-    rw (e, none-with ks rs n (both .1) a)
+none-with ks rs n h e = rw append-nil at (none-before ks rs [] n h e)
 
--- Of two lists of rows one after the other, the first row with a word is the first list's, or else the second's.
-pub order-append : (n : ℕ) (a b : List Row) (f : Fields) (other : Parsed)
-    → orderBy (rowsWith n (a ++ b)) f other ≡ orderBy (rowsWith n a) f (orderBy (rowsWith n b) f other)
-unfolding rowsWith those
-order-append n [] b f other = refl
-order-append n (r ∷ a) b f other = go (eqb (packed (r .word)) n) refl (order-append n a b f other)
+-- Past the last row there is none.
+pub no-rows : (n : ℕ) → 41 ≤ n → drop n forms ≡ []
+unfolding computing-form
+no-rows n h = drop-of-length-le forms h
+
+-- A number that is not below another nor that number is above it.
+pub past : (k n : ℕ) → k ≤ n → (n ≡ k → ⊥) → suc k ≤ n
+past k n h other = omega arith
+
+-- the numbers from one on, an arm each, the last first
+abbrev pub armsFrom : ℕ → ℕ → List (List ℕ)
+armsFrom from zero = []
+armsFrom from (suc k) = ((from + k) ∷ []) ∷ armsFrom from k
+
+-- After the arms of k numbers in a row, a number that is not below them is above them.
+pub rest-above : (from k n : ℕ) → from ≤ n → Rest (armsFrom from k) n → from + k ≤ n
+rest-above from zero n h r = omega arith
+rest-above from (suc k) n h r =
+    let i : suc (from + k) ≤ n = past (from + k) n (rest-above from k n h (r .0)) (r .1) in
+    omega arith
+
+-- the numbers from one on
+abbrev pub numbers : ℕ → ℕ → List ℕ
+numbers from zero = []
+numbers from (suc k) = from ∷ numbers (suc from) k
+
+-- A function that has one value at k numbers in a row has it at each.
+pub all-between : {A : Type 0} (F : ℕ → A) (v : A) (from k n : ℕ) → map F (numbers from k) ≡ map (λ i. v) (numbers from k) → from ≤ n → n < from + k → F n ≡ v
+all-between F v from zero n e l u = absurd (omega arith)
+all-between F v from (suc k) n e l u = go (leb n from) refl (all-between F v (suc from) k n (tail-eq-of-cons-eq e))
   where
-    go : (t : Bool) → eqb (packed (r .word)) n ≡ t → orderBy (rowsWith n (a ++ b)) f other ≡ orderBy (rowsWith n a) f (orderBy (rowsWith n b) f other)
-        → orderBy (rowsWith n ((r ∷ a) ++ b)) f other ≡ orderBy (rowsWith n (r ∷ a)) f (orderBy (rowsWith n b) f other)
-    go true e h = rw e
-    go false e h = rw e h
+    go : (t : Bool) → leb n from ≡ t → (suc from ≤ n → n < suc from + k → F n ≡ v) → F n ≡ v
+    go true p later =
+        let h : n ≡ from = omega (arith, leb-true n from p) in
+        rw h (head-eq-of-cons-eq e)
+    go false p later = later (omega (arith, leb-false n from p)) (omega arith)

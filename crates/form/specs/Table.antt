@@ -1,18 +1,18 @@
--- How the code holds the table of forms: by the words, each as one number. A row is found by its word's number, and a word has
--- one form or two, as `SPDHx` and `SPDHxd`.
-use Prim.Native.Nat.{ℕ}
+-- How the code holds the table of forms: by the words, each as one number, and by the rows, each by its place among them. A row
+-- is found by its word's number, and a word has one form or two, as `SPDHx` and `SPDHxd`.
+use mathlib.Core.Path.{_≡_}
+use Prim.Native.Nat.{ℕ, _≤_}
 use mathlib.Core.List.{List, [], _∷_, reverse}
 use mathlib.Core.Bool.{Bool, true, false, _||_, cond}
-use lib.ListN.{getD}
+use lib.ListN.{take, drop}
 use lib.Dec.{eqb}
 use Rattle.text.specs.Text.{same}
 use Rattle.digits.specs.Words.{word}
 use Rattle.line.specs.declared.Fields.{Fields}
 use Rattle.line.specs.declared.Field.{Field}
-use Rattle.line.specs.declared.Field.the-variants.{End, Never}
-use Rattle.line.specs.declared.Shape.{Shape}
+use Rattle.line.specs.declared.Field.the-variants.{Never}
 use Rattle.line.specs.declared.Parsed.{Parsed}
-use Rattle.line.specs.declared.Parsed.the-variants.{Is, Nothing}
+use Rattle.line.specs.declared.Parsed.the-variants.{Is}
 use Rattle.line.specs.Forms.{Row, forms, those}
 
 -- the letters of a word as one number, the last one lowest
@@ -38,10 +38,6 @@ unfoldable pub rowsBy : Bool → ℕ → List Row
 rowsBy false k = rowsWith k forms
 rowsBy true k = rowsWith k (repeated [] forms)
 
--- fields as three, `End` where there are fewer
-abbrev pub shapeOf : List Field → Shape
-shapeOf ks = record { first = getD ks 0 End; second = getD ks 1 End; third = getD ks 2 End }
-
 -- the fields of the first of some rows
 abbrev pub fieldsBy : List Row → List Field
 fieldsBy [] = Never ∷ []
@@ -52,10 +48,7 @@ abbrev pub orderBy : List Row → Fields → Parsed → Parsed
 orderBy [] f other = other
 orderBy (r ∷ rs) f other = Is (r .order f)
 
--- what follows a word, by its first form or its second
-unfoldable pub shapeAfter : Bool → ℕ → Shape
-shapeAfter second k = shapeOf (fieldsBy (rowsBy second k))
-
--- the order that a word makes of its fields, by its first form or its second
-unfoldable pub orderWith : Bool → ℕ → Fields → Parsed
-orderWith second k f = orderBy (rowsBy second k) f Nothing
+-- n is the number of the first of some rows, counted from 0 in the order of the forms; of none it is 41, as many as there are
+pub record Numbers (n : ℕ) (rs : List Row) : Type 0 where
+  pub row : take 1 (drop n forms) ≡ take 1 rs
+  pub most : n ≤ 41

@@ -1,8 +1,9 @@
-// The table of forms: the words (words.rt), what follows each (shapes.rt) and the order that it makes (orders.rt). What it must
-// hold is line/specs/Forms.antt.
+// The table of forms: the words (words.rt), the rows that each has (rows.rt), what follows the word of a row (tails.rt) and the
+// order that the row makes (orders.rt). What it must hold is line/specs/Forms.antt.
 
 pub mod orders;
-pub mod shapes;
+pub mod rows;
+pub mod tails;
 pub mod words;
 
 // A word that was found in a line, and the place after it; no letters where no word stands.

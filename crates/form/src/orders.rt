@@ -1,6 +1,6 @@
-// The order that a word makes of its fields, in document 01's order of the lines.
+// The order that a row makes of its fields.
 
-use crate::words::*;
+use crate::rows::*;
 use digits::places::CCW;
 use digits::places::CW;
 use line::Fields;
@@ -11,9 +11,11 @@ use line::Question;
 use line::Setting;
 use line::Start;
 ghost use mathlib.Core.Path.{_≡_};
-ghost use mathlib.Core.Bool.{true, false};
-ghost use Rattle.line.specs.Forms.{startRows, stopRows, settingRows, questionRows, headRows};
-ghost use Rattle.form.specs.Table.{rowsWith, orderBy, orderWith};
+ghost use Prim.Native.Nat.{_≤_};
+ghost use lib.ListN.{drop};
+ghost use Rattle.line.specs.declared.Parsed.the-variants.{Nothing};
+ghost use Rattle.line.specs.Forms.{forms};
+ghost use Rattle.form.specs.Table.{orderBy};
 
 // The speeds by number, and the end flags of the stops.
 const LSPD: u8 = 0;
@@ -26,123 +28,98 @@ const SSEND: u8 = 0x40;
 
 const ESEND: u8 = 0x80;
 
-// Each of these answers the other order where the word is none of its own.
-fn start_order(word: u64, f: Fields, other: Parsed) -> Parsed
-    ensures { λ r. ⌜ r ≡ orderBy (rowsWith word startRows) f other ⌝ }
+// The order that a row makes of its fields; nothing where there is no row. Each of these leaves the later rows to the next.
+pub fn order_of(row: u8, f: Fields) -> Parsed
+    ensures { λ r. ⌜ r ≡ orderBy (drop row forms) f Nothing ⌝ }
 {
     let x = f.channel;
     let written = f.written;
-    match word {
-        ABS => Parsed::Is(Order::Go(x, Start::Abs(written))),
-        REL => Parsed::Is(Order::Go(x, Start::Rel(written))),
-        SCANP => Parsed::Is(Order::Go(x, Start::Scan(CW))),
-        SCANN => Parsed::Is(Order::Go(x, Start::Scan(CCW))),
-        JOGP => Parsed::Is(Order::Go(x, Start::Jog(CW))),
-        JOGN => Parsed::Is(Order::Go(x, Start::Jog(CCW))),
-        _ => other,
+    match row {
+        ABS_ROW => Parsed::Is(Order::Go(x, Start::Abs(written))),
+        REL_ROW => Parsed::Is(Order::Go(x, Start::Rel(written))),
+        SCANP_ROW => Parsed::Is(Order::Go(x, Start::Scan(CW))),
+        SCANN_ROW => Parsed::Is(Order::Go(x, Start::Scan(CCW))),
+        JOGP_ROW => Parsed::Is(Order::Go(x, Start::Jog(CW))),
+        JOGN_ROW => Parsed::Is(Order::Go(x, Start::Jog(CCW))),
+        _ => stop_order(row, f),
     }
 }
 
-fn stop_order(word: u64, f: Fields, other: Parsed) -> Parsed
-    ensures { λ r. ⌜ r ≡ orderBy (rowsWith word stopRows) f other ⌝ }
+fn stop_order(row: u8, f: Fields) -> Parsed
+    requires { ⌜ 6 ≤ row ⌝ }
+    ensures { λ r. ⌜ r ≡ orderBy (drop row forms) f Nothing ⌝ }
 {
     let x = f.channel;
     let written = f.written;
-    match word {
-        SSTP => Parsed::Is(Order::Stop(x, SSEND)),
-        ESTP => Parsed::Is(Order::Stop(x, ESEND)),
-        ASSTP => Parsed::Is(Order::StopAll(SSEND)),
-        AESTP => Parsed::Is(Order::StopAll(ESEND)),
-        SPC => Parsed::Is(Order::ChangeSpeed(x, written.digits)),
-        _ => other,
+    match row {
+        SSTP_ROW => Parsed::Is(Order::Stop(x, SSEND)),
+        ESTP_ROW => Parsed::Is(Order::Stop(x, ESEND)),
+        ASSTP_ROW => Parsed::Is(Order::StopAll(SSEND)),
+        AESTP_ROW => Parsed::Is(Order::StopAll(ESEND)),
+        SPC_ROW => Parsed::Is(Order::ChangeSpeed(x, written.digits)),
+        _ => setting_order(row, f),
     }
 }
 
-fn setting_order(word: u64, f: Fields, other: Parsed) -> Parsed
-    ensures { λ r. ⌜ r ≡ orderBy (rowsWith word settingRows) f other ⌝ }
+fn setting_order(row: u8, f: Fields) -> Parsed
+    requires { ⌜ 11 ≤ row ⌝ }
+    ensures { λ r. ⌜ r ≡ orderBy (drop row forms) f Nothing ⌝ }
 {
     let x = f.channel;
     let written = f.written;
     let first = f.first;
     let second = f.second;
-    match word {
-        PS => Parsed::Is(Order::Set(x, Setting::Preset(written))),
-        FL => Parsed::Is(Order::Set(x, Setting::SetCwLimit(written))),
-        BL => Parsed::Is(Order::Set(x, Setting::SetCcwLimit(written))),
-        SPDH => Parsed::Is(Order::Set(x, Setting::Select(HSPD))),
-        SPDM => Parsed::Is(Order::Set(x, Setting::Select(MSPD))),
-        SPDL => Parsed::Is(Order::Set(x, Setting::Select(LSPD))),
-        SETLS => Parsed::Is(Order::Set(x, Setting::SetSwitches(first, second))),
-        SETMT => Parsed::Is(Order::Set(x, Setting::SetMotor(first))),
-        _ => other,
+    match row {
+        PS_ROW => Parsed::Is(Order::Set(x, Setting::Preset(written))),
+        FL_ROW => Parsed::Is(Order::Set(x, Setting::SetCwLimit(written))),
+        BL_ROW => Parsed::Is(Order::Set(x, Setting::SetCcwLimit(written))),
+        SPDH_ROW => Parsed::Is(Order::Set(x, Setting::Select(HSPD))),
+        SPDM_ROW => Parsed::Is(Order::Set(x, Setting::Select(MSPD))),
+        SPDL_ROW => Parsed::Is(Order::Set(x, Setting::Select(LSPD))),
+        SET_SPDH_ROW => Parsed::Is(Order::Set(x, Setting::SetSpeed(HSPD, written.digits))),
+        SET_SPDM_ROW => Parsed::Is(Order::Set(x, Setting::SetSpeed(MSPD, written.digits))),
+        SET_SPDL_ROW => Parsed::Is(Order::Set(x, Setting::SetSpeed(LSPD, written.digits))),
+        SETLS_ROW => Parsed::Is(Order::Set(x, Setting::SetSwitches(first, second))),
+        SETMT_ROW => Parsed::Is(Order::Set(x, Setting::SetMotor(first))),
+        _ => question_order(row, f),
     }
 }
 
-fn question_order(word: u64, f: Fields, other: Parsed) -> Parsed
-    ensures { λ r. ⌜ r ≡ orderBy (rowsWith word questionRows) f other ⌝ }
+fn question_order(row: u8, f: Fields) -> Parsed
+    requires { ⌜ 22 ≤ row ⌝ }
+    ensures { λ r. ⌜ r ≡ orderBy (drop row forms) f Nothing ⌝ }
 {
     let x = f.channel;
-    match word {
-        ASK_PS => Parsed::Is(Order::Ask(x, Question::AskPosition)),
-        ASK_FL => Parsed::Is(Order::Ask(x, Question::AskCwLimit)),
-        ASK_BL => Parsed::Is(Order::Ask(x, Question::AskCcwLimit)),
-        ASK_SPD => Parsed::Is(Order::Ask(x, Question::AskSelected)),
-        ASK_SPDH => Parsed::Is(Order::Ask(x, Question::AskSpeed(HSPD))),
-        ASK_SPDM => Parsed::Is(Order::Ask(x, Question::AskSpeed(MSPD))),
-        ASK_SPDL => Parsed::Is(Order::Ask(x, Question::AskSpeed(LSPD))),
-        ASK_SETLS => Parsed::Is(Order::Ask(x, Question::AskSwitches)),
-        ASK_SETMT => Parsed::Is(Order::Ask(x, Question::AskMotor)),
-        ASK_STS => Parsed::Is(Order::Ask(x, Question::AskStatus)),
-        _ => other,
+    match row {
+        ASK_PS_ROW => Parsed::Is(Order::Ask(x, Question::AskPosition)),
+        ASK_FL_ROW => Parsed::Is(Order::Ask(x, Question::AskCwLimit)),
+        ASK_BL_ROW => Parsed::Is(Order::Ask(x, Question::AskCcwLimit)),
+        ASK_SPD_ROW => Parsed::Is(Order::Ask(x, Question::AskSelected)),
+        ASK_SPDH_ROW => Parsed::Is(Order::Ask(x, Question::AskSpeed(HSPD))),
+        ASK_SPDM_ROW => Parsed::Is(Order::Ask(x, Question::AskSpeed(MSPD))),
+        ASK_SPDL_ROW => Parsed::Is(Order::Ask(x, Question::AskSpeed(LSPD))),
+        ASK_SETLS_ROW => Parsed::Is(Order::Ask(x, Question::AskSwitches)),
+        ASK_SETMT_ROW => Parsed::Is(Order::Ask(x, Question::AskMotor)),
+        ASK_STS_ROW => Parsed::Is(Order::Ask(x, Question::AskStatus)),
+        _ => head_order(row, f),
     }
 }
 
-fn head_order(word: u64, f: Fields, other: Parsed) -> Parsed
-    ensures { λ r. ⌜ r ≡ orderBy (rowsWith word headRows) f other ⌝ }
+fn head_order(row: u8, f: Fields) -> Parsed
+    requires { ⌜ 32 ≤ row ⌝ }
+    ensures { λ r. ⌜ r ≡ orderBy (drop row forms) f Nothing ⌝ }
 {
-    match word {
-        LOC => Parsed::Is(Order::Mode(0)),
-        REM => Parsed::Is(Order::Mode(1)),
-        ALL_REP => Parsed::Is(Order::AllReply(1)),
-        ASK_ALL_REP => Parsed::Is(Order::AskHead(HeadQuestion::AskAllReply)),
-        ASK_ERRF => Parsed::Is(Order::AskHead(HeadQuestion::AskFlags)),
-        ASK_ERR => Parsed::Is(Order::AskHead(HeadQuestion::AskError)),
-        ERRC => Parsed::Is(Order::ClearErrors),
-        _ => other,
-    }
-}
-
-fn first_order(word: u64, f: Fields) -> Parsed
-    ensures { λ r. ⌜ r ≡ orderWith false word f ⌝ }
-{
-    let head = head_order(word, f, Parsed::Nothing);
-    let question = question_order(word, f, head);
-    let setting = setting_order(word, f, question);
-    start_order(word, f, stop_order(word, f, setting))
-}
-
-fn second_order(word: u64, f: Fields) -> Parsed
-    ensures { λ r. ⌜ r ≡ orderWith true word f ⌝ }
-{
-    let x = f.channel;
     let written = f.written;
-    match word {
-        SPDH => Parsed::Is(Order::Set(x, Setting::SetSpeed(HSPD, written.digits))),
-        SPDM => Parsed::Is(Order::Set(x, Setting::SetSpeed(MSPD, written.digits))),
-        SPDL => Parsed::Is(Order::Set(x, Setting::SetSpeed(LSPD, written.digits))),
-        ALL_REP => Parsed::Is(Order::AllReply(0)),
-        ERRC => Parsed::Is(Order::ClearError(written.digits)),
+    match row {
+        LOC_ROW => Parsed::Is(Order::Mode(0)),
+        REM_ROW => Parsed::Is(Order::Mode(1)),
+        ALL_REP_EN_ROW => Parsed::Is(Order::AllReply(1)),
+        ALL_REP_DS_ROW => Parsed::Is(Order::AllReply(0)),
+        ASK_ALL_REP_ROW => Parsed::Is(Order::AskHead(HeadQuestion::AskAllReply)),
+        ASK_ERRF_ROW => Parsed::Is(Order::AskHead(HeadQuestion::AskFlags)),
+        ASK_ERR_ROW => Parsed::Is(Order::AskHead(HeadQuestion::AskError)),
+        ERRC_ROW => Parsed::Is(Order::ClearErrors),
+        ERRCE_ROW => Parsed::Is(Order::ClearError(written.digits)),
         _ => Parsed::Nothing,
-    }
-}
-
-// The order that a word makes of its fields, by its first form or its second; nothing where it has none.
-pub fn order_with(second: bool, word: u64, f: Fields) -> Parsed
-    ensures { λ r. ⌜ r ≡ orderWith second word f ⌝ }
-{
-    if second {
-        second_order(word, f)
-    } else {
-        first_order(word, f)
     }
 }

@@ -9,11 +9,9 @@ use lib.Dec.{eqb}
 use borrow.Author.Tests.{ne-eqb, eqb-true, eqb-false}
 use Rattle.digits.specs.Bytes.{AllBytes, part, put}
 use Rattle.digits.specs.Words.{withoutBit}
-use Rattle.digits.proofs.PartLaws.{part-bytes}
 use Rattle.record.specs.declared.Motor.{Motor}
 use Rattle.record.specs.Record.{motorOf, recordOf}
 use Rattle.motor.specs.Sound.{driving}
-use Rattle.motor.proofs.RecordLaws.{sound-read-written}
 use Rattle.drive.specs.Drives.{stopped}
 use Rattle.pulses.specs.Ticks.{tickMotor}
 use Rattle.pulses.proofs.Laws.{stopped-given-none}
@@ -25,12 +23,12 @@ use Rattle.line.specs.declared.Parsed.the-variants.{Is, Nothing}
 use Rattle.line.specs.Forms.{orderOf}
 use Rattle.line.specs.Made.{orderMade}
 use Rattle.line.proofs.OrderLaws.{line-made}
-use Rattle.table.specs.Layout.{recordStart, recordAt, records, errors, motorAt, withMotor, withMotors}
+use Rattle.table.specs.Layout.{recordAt, records, errors, motorAt, withMotor, withMotors}
 use Rattle.table.specs.Sound.{soundTable}
 use Rattle.record.proofs.RoundTrip.{record-length}
 use Rattle.table.proofs.PieceLaws.{flat-length, part-before}
 use Rattle.table.proofs.TableLaws.{sound-length, sound-record-at}
-use Rattle.table.proofs.KeptLaws.{written-record, head-kept, record-kept}
+use Rattle.table.proofs.KeptLaws.{written-record, head-kept, record-kept, read-back}
 use Rattle.commands.specs.Changing.{changed, flagged}
 use Rattle.commands.proofs.ChannelLaws.{named, named-channel}
 use Rattle.obeying.specs.Taking.{refused, obeyed}
@@ -45,8 +43,7 @@ use Rattle.laws.proofs.Following.{head-record}
 
 -- A sound record that is read and written back is the same bytes.
 written-back : (t : List ℕ) (d : ℕ) → soundTable t ≡ true → AllBytes t → d ≤ 15 → recordOf (motorAt t d) ≡ recordAt t d
-unfolding motorAt
-written-back t d s bytes h = sound-read-written (recordAt t d) (sound-record-at t d s h) (part-bytes t (recordStart d) 64 bytes)
+written-back t d s bytes h = read-back t d (sound-record-at t d s h) bytes
 
 -- A motor written leaves the record of another channel, and its own where it is what the record holds.
 motor-left : (t : List ℕ) (x : ℕ) (m : Motor) (d : ℕ) → soundTable t ≡ true → x ≤ 15 → (eqb x d ≡ true → recordOf m ≡ recordAt t d)

@@ -1,4 +1,5 @@
--- Where a field stands, the line has not ended yet, so the place after it is within the line. Assumes nothing.
+-- Where a field stands, the line has not ended yet, so the place after it is within the line; and the last field ends the
+-- fields. Assumes nothing.
 use Prim.Native.Char.{code}
 use mathlib.Core.Path.{_≡_, refl}
 use mathlib.Core.List.{List}
@@ -11,7 +12,9 @@ use borrow.Author.Tests.{leb-true, leb-false}
 use Rattle.text.specs.Text.{isDigit, isHex, digitsAtFront, numberAtFront}
 use Rattle.text.specs.declared.decimal.Number.the-variants.{Read}
 use Rattle.text.proofs.TextLaws.{between, digits-within, number-found}
-use Rattle.line.specs.Shapes.{byteAt}
+use Rattle.line.specs.declared.Got.{Got}
+use Rattle.line.specs.declared.Got.the-variants.{Here, Absent}
+use Rattle.line.specs.Shapes.{byteAt, onward}
 
 -- Past the end of a line stands 0, so any other byte stands within it.
 pub byte-there : (s : List ℕ) (at : ℕ) → 0 < byteAt s at → at < length s
@@ -39,3 +42,8 @@ pub number-there : (s : List ℕ) (at v n : ℕ) → numberAtFront (drop at s) �
 number-there s at v n e =
     let w = number-found (drop at s) v n e in
     omega (arith, length-drop at s)
+
+-- Nothing is read after the last field.
+pub last-field : (t : Got) → t ≡ onward t (λ f to. Here f to)
+last-field (Here f to) = refl
+last-field Absent = refl

@@ -1,4 +1,5 @@
 pub mod Shapes
+pub mod Tails
 pub mod Forms
 pub mod Made
 pub mod Computing

@@ -1,7 +1,7 @@
 -- Document 01, "Lines": the fields that a line is made of, and the shapes that they make. A field is read at a place of the
 -- line and gives the place after it: "The line in hand and the place reached travel together".
 use Prim.Native.Char.{code}
-use Prim.Native.Nat.{ℕ, zero, suc, _+_}
+use Prim.Native.Nat.{ℕ, _+_}
 use mathlib.Core.List.{List, [], _∷_}
 use mathlib.Core.Bool.{Bool, true, false, _&&_, cond}
 use lib.ListN.{drop, getD}
@@ -13,7 +13,6 @@ use Rattle.line.specs.declared.Four.{Four}
 use Rattle.line.specs.declared.Fields.{Fields}
 use Rattle.line.specs.declared.Field.{Field}
 use Rattle.line.specs.declared.Field.the-variants.{Channel, Signed, Unsigned, Digit, Question, FourDigits, ZeroThree, Enable, Disable, End, Never}
-use Rattle.line.specs.declared.Shape.{Shape}
 use Rattle.line.specs.declared.Got.{Got}
 use Rattle.line.specs.declared.Got.the-variants.{Here, Absent}
 
@@ -163,17 +162,3 @@ onward Absent next = Absent
 unfoldable pub readFields : List Field → Fields → List ℕ → ℕ → Got
 readFields [] f s at = Here f at
 readFields (k ∷ ks) f s at = onward (readField k f s at) (λ g to. readFields ks g s to)
-
--- From here on, how the code reads the same fields: by three at most, as no row has more. That it comes to `readFields` is
--- proved (`shape-fields` in crates/reader/proofs/FindingLaws.antt). The kind of field number i of a shape:
-abbrev pub kindAt : Shape → ℕ → Field
-kindAt k i = cond (eqb i 0) (k .first) (cond (eqb i 1) (k .second) (k .third))
-
--- the first n fields of a shape, one after the other, from a place on
-unfoldable pub readFirst : ℕ → Shape → List ℕ → ℕ → Got
-readFirst zero k s at = Here noFields at
-readFirst (suc n) k s at = onward (readFirst n k s at) (λ f to. readField (kindAt k n) f s to)
-
--- the three fields of a shape
-abbrev pub readShape : Shape → List ℕ → ℕ → Got
-readShape k s at = readFirst 3 k s at

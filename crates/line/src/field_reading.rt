@@ -1,11 +1,11 @@
 // The fields of a line, each read at a place of it. A place may lie anywhere: where the line has ended stands the byte 0,
 // which no field has, so the place after a field is counted only once a byte is known to stand there.
 
-use crate::Field;
+use crate::AfterX;
 use crate::Fields;
 use crate::Four;
 use crate::Got;
-use crate::Shape;
+use crate::Tail;
 use crate::Written;
 use text::decimal::Number;
 use text::decimal::digit_value;
@@ -13,12 +13,15 @@ use text::decimal::digits_at;
 use text::decimal::is_digit;
 use text::decimal::number_at;
 ghost use mathlib.Core.Path.{_≡_};
+ghost use mathlib.Core.List.{[], _∷_};
 ghost use Prim.Native.Nat.{_+_, _<_, _≤_};
 ghost use lib.ListN.{length};
 ghost use Rattle.text.specs.Text.{isHex, hexValue, digitValue};
 ghost use Rattle.line.specs.Shapes.{noFields, withChannel, withWritten, withFirst, withSecond, byteAt, fourOf};
 ghost use Rattle.line.specs.Shapes.{readChannel, readNumber, readSigned, readDigit, readQuestion, readLetters};
-ghost use Rattle.line.specs.Shapes.{readFour, readZeroThree, readField, kindAt, onward, readShape};
+ghost use Rattle.line.specs.Shapes.{readFour, readZeroThree, readFields};
+ghost use Rattle.line.specs.Tails.{afterX, fieldsOf};
+ghost use Rattle.line.specs.declared.Field.the-variants.{Channel, FourDigits, ZeroThree};
 
 // The byte at a place, 0 where the line has ended.
 fn byte_or_zero(s: &[u8], at: usize) -> u8
@@ -91,12 +94,14 @@ fn with_second(f: Fields, q: Four) -> Fields
     g
 }
 
-// x: one of 0-9, A-F.
+// x: one of 0-9, A-F. Most are digits, which need no second test.
 fn channel_at(s: &[u8], at: usize, f: Fields) -> Got
     ensures { λ r. ⌜ r ≡ readChannel f (now (s .entry)) at ⌝ }
 {
     let b = byte_or_zero(s, at);
-    if is_hex(b) {
+    if is_digit(b) {
+        Got::Here(with_channel(f, digit_of(b)), at + 1)
+    } else if is_hex(b) {
         Got::Here(with_channel(f, hex_value(b)), at + 1)
     } else {
         Got::Absent
@@ -205,31 +210,36 @@ fn zero_three_at(s: &[u8], at: usize, f: Fields) -> Got
     }
 }
 
-// A field of any kind.
-fn field_at(s: &[u8], at: usize, kind: Field, f: Fields) -> Got
-    ensures { λ r. ⌜ r ≡ readField kind f (now (s .entry)) at ⌝ }
+// DYYY0yyy.
+fn switches_at(s: &[u8], at: usize, f: Fields) -> Got
+    ensures { λ r. ⌜ r ≡ readFields (FourDigits ∷ ZeroThree ∷ []) f (now (s .entry)) at ⌝ }
 {
-    match kind {
-        Field::Channel => channel_at(s, at, f),
-        Field::Signed => signed_at(s, at, f),
-        Field::Unsigned => number_from(s, at, false, f),
-        Field::Digit => digit_at(s, at, f),
-        Field::Question => question_at(s, at, f),
-        Field::FourDigits => four_at(s, at, f),
-        Field::ZeroThree => zero_three_at(s, at, f),
-        Field::Enable => letters_at(s, at, b'E', b'N', f),
-        Field::Disable => letters_at(s, at, b'D', b'S', f),
-        Field::End => Got::Here(f, at),
-        Field::Never => Got::Absent,
+    match four_at(s, at, f) {
+        Got::Here(g, to) => zero_three_at(s, to, g),
+        Got::Absent => Got::Absent,
     }
 }
 
-// The next field, where the one before it is there.
-fn onward_at(s: &[u8], got: Got, kind: Field) -> Got
-    ensures { λ r. ⌜ r ≡ onward got (λ f to. readField kind f (now (s .entry)) to) ⌝ }
+// What follows x.
+fn after_x_at(s: &[u8], at: usize, after: AfterX, f: Fields) -> Got
+    ensures { λ r. ⌜ r ≡ readFields (afterX after) f (now (s .entry)) at ⌝ }
 {
-    match got {
-        Got::Here(f, at) => field_at(s, at, kind, f),
+    match after {
+        AfterX::OnlyX => Got::Here(f, at),
+        AfterX::XSigned => signed_at(s, at, f),
+        AfterX::XNumber => number_from(s, at, false, f),
+        AfterX::XSwitches => switches_at(s, at, f),
+        AfterX::XDigits => four_at(s, at, f),
+        AfterX::XQuestion => question_at(s, at, f),
+    }
+}
+
+// x and what follows it.
+fn x_at(s: &[u8], at: usize, after: AfterX, f: Fields) -> Got
+    ensures { λ r. ⌜ r ≡ readFields (Channel ∷ afterX after) f (now (s .entry)) at ⌝ }
+{
+    match channel_at(s, at, f) {
+        Got::Here(g, to) => after_x_at(s, to, after, g),
         Got::Absent => Got::Absent,
     }
 }
@@ -255,29 +265,17 @@ fn no_fields() -> Fields
     }
 }
 
-// The kind of field number i of a shape.
-fn kind_at(shape: Shape, i: usize) -> Field
-    ensures { λ r. ⌜ r ≡ kindAt shape i ⌝ }
+// What follows a word, field after field.
+pub fn fields_at(s: &[u8], at: usize, tail: Tail) -> Got
+    ensures { λ r. ⌜ r ≡ readFields (fieldsOf tail) noFields (now (s .entry)) at ⌝ }
 {
-    let first = shape.first;
-    let second = shape.second;
-    let third = shape.third;
-    match i {
-        0 => first,
-        1 => second,
-        _ => third,
+    let f = no_fields();
+    match tail {
+        Tail::Alone => Got::Here(f, at),
+        Tail::AtX(after) => x_at(s, at, after, f),
+        Tail::OneDigit => digit_at(s, at, f),
+        Tail::Enabling => letters_at(s, at, b'E', b'N', f),
+        Tail::Disabling => letters_at(s, at, b'D', b'S', f),
+        Tail::NoLine => Got::Absent,
     }
-}
-
-// The three fields of a shape, one after the other.
-pub fn fields_at(s: &[u8], at: usize, shape: Shape) -> Got
-    ensures { λ r. ⌜ r ≡ readShape shape (now (s .entry)) at ⌝ }
-{
-    let mut got = Got::Here(no_fields(), at);
-    let mut n: usize = 0;
-    while n < 3 {
-        got = onward_at(s, got, kind_at(shape, n));
-        n += 1;
-    }
-    got
 }

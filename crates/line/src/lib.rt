@@ -49,11 +49,36 @@ pub enum Field {
     Never,
 }
 
-// What follows a word: three fields at most.
-pub struct Shape {
-    pub first: Field,
-    pub second: Field,
-    pub third: Field,
+// What follows a word, as the code reads it: the fields of each are in specs/Tails.antt. `NoLine` stands where no line has the
+// form.
+pub enum Tail {
+    // nothing, as in ASSTP
+    Alone,
+    // x and what follows it
+    AtX(AfterX),
+    // e
+    OneDigit,
+    // EN
+    Enabling,
+    // DS
+    Disabling,
+    NoLine,
+}
+
+// What follows x.
+pub enum AfterX {
+    // nothing, as in SCANPx
+    OnlyX,
+    // ±d
+    XSigned,
+    // d
+    XNumber,
+    // DYYY0yyy
+    XSwitches,
+    // ABCD
+    XDigits,
+    // the ? of STSx?
+    XQuestion,
 }
 
 // What reading a field gives: the fields so far and the place after it, or that it is not there.

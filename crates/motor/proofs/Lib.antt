@@ -1,5 +1,9 @@
 pub mod Laws
 pub mod SoundLaws
+pub mod StandingLaws
+pub mod BitLaws
+pub mod SmallLaws
+pub mod PlaceLaws
 pub mod RoomLaws
 pub mod RecordLaws
 pub mod Cases

@@ -22,6 +22,15 @@ pub and-r : (a b : Bool) → (a && b) ≡ true → b ≡ true
 and-r true b e = e
 and-r false b e = cc
 
+-- Where the second part holds, the first decides; where it does not, neither does the whole.
+pub and-true : (a : Bool) → (a && true) ≡ a
+and-true true = refl
+and-true false = refl
+
+pub and-false : (a : Bool) → (a && false) ≡ false
+and-false true = refl
+and-false false = refl
+
 -- "every field is in its range", topic by topic
 pub record InRange (m : Motor) : Type 0 where
   pub place : isPosition (m .place) ≡ true

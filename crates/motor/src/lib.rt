@@ -1,7 +1,6 @@
 // Switches, room and soundness of one motor. What each rule of the bench says stands in specs/.
 
 use digits::choose;
-use digits::choose_test;
 use digits::is_set;
 use digits::larger;
 use digits::places::CW;
@@ -12,21 +11,27 @@ use digits::places::is_position;
 use digits::places::pulses_ahead;
 use digits::smaller;
 use digits::words::long_at;
+use digits::words::wide_at;
 use record::Drive;
-use record::Limits;
 use record::Motor;
 use record::Setup;
 use record::Speeds;
 use record::Wiring;
 use record::read_motor;
 ghost use mathlib.Core.Path.{_≡_};
+ghost use mathlib.Core.Bool.{_&&_, not, cond};
 ghost use Prim.Native.Nat.{_≤_};
+ghost use lib.Dec.{eqb, leb};
+ghost use lib.Bits.{bitAnd};
 ghost use lib.ListN.{length};
 ghost use Rattle.digits.specs.Bytes.{part, allZero};
+ghost use Rattle.digits.specs.Words.{word};
+ghost use Rattle.digits.specs.Places.{origin, isPosition, ahead};
+ghost use Rattle.record.specs.Record.{motorOf};
 ghost use Rattle.motor.specs.Switches.{switchOf, active, blocked, edge, room};
-ghost use Rattle.motor.specs.Sound.{isSpeed, limitsInRange, speedsInRange, wiringInRange, setupInRange, settingsInRange};
-ghost use Rattle.motor.specs.Sound.{endFlagsInRange, driveInRange, inRange, atRest, aimRight, underWay};
-ghost use Rattle.motor.specs.Sound.{driving, soundMotor, soundRecord};
+ghost use Rattle.motor.specs.Sound.{isSpeed, limitsInRange, wiringInRange, setupInRange, settingsInRange};
+ghost use Rattle.motor.specs.Sound.{endFlagsInRange, driveInRange, atRest, underWay};
+ghost use Rattle.motor.specs.Sound.{driving, soundRecord};
 
 // The switch that a direction runs into, by its bit: 0 CW, 1 CCW.
 fn switch_of(going: u8) -> u8
@@ -77,64 +82,105 @@ pub fn is_speed(v: u32) -> bool
     (1 <= v) & (v <= 5000000)
 }
 
-fn limits_in_range(l: Limits) -> bool
-    ensures { λ r. ⌜ r ≡ limitsInRange l ⌝ }
+// Whether the position and the digital limits are positions: every number of the table but one is, the lowest of all, so the
+// least of the three tells.
+fn places_in_range(m: Motor) -> bool
+    ensures { λ r. ⌜ r ≡ (isPosition (m .place) && limitsInRange (m .limits)) ⌝ }
 {
-    is_position(l.cw) & is_position(l.ccw)
+    LOWEST <= smaller(m.place, smaller(m.limits.cw, m.limits.ccw))
 }
 
-fn speeds_in_range(s: Speeds) -> bool
-    ensures { λ r. ⌜ r ≡ speedsInRange s ⌝ }
+// Whether HSPD, MSPD and LSPD are speeds.
+fn are_speeds(s: Speeds) -> bool
+    ensures { λ r. ⌜ r ≡ (isSpeed (s .high) && isSpeed (s .middle) && isSpeed (s .low)) ⌝ }
 {
-    is_speed(s.high) & is_speed(s.middle) & is_speed(s.low) & (s.selected <= 2)
+    if is_speed(s.high) {
+        if is_speed(s.middle) {
+            is_speed(s.low)
+        } else {
+            false
+        }
+    } else {
+        false
+    }
 }
 
-fn wiring_in_range(w: Wiring) -> bool
-    ensures { λ r. ⌜ r ≡ wiringInRange w ⌝ }
-{
-    (w.setls <= 255) & !is_set(3, w.setls) & (w.contacts <= 7)
-}
-
-// Whether SETMT digits are in range; a command's digits are judged by it too.
+// Whether SETMT digits are in range.
 pub fn setup_in_range(s: Setup) -> bool
     ensures { λ r. ⌜ r ≡ setupInRange s ⌝ }
 {
     (s.a <= 1) & (s.b <= 1) & (s.c == 0) & (s.d <= 2)
 }
 
-fn end_flags_in_range(e: u8) -> bool
-    ensures { λ r. ⌜ r ≡ endFlagsInRange e ⌝ }
+// The bits of bytes 24 to 31, read as one number, that no sound record has set: selected and D are at most 2, SETLS has a 0 at
+// bit 3, the contacts are three bits, A and B one, C is 0, and the end flags are the upper three.
+const NEVER_SET: u64 = 0x1ffc_fffe_fef8_08fc;
+
+// Whether none of them is set.
+fn bits_clear(b: &[u8]) -> bool
+    requires { ⌜ length (now b) ≡ 64 ⌝ }
+    ensures { λ r. ⌜ r ≡ eqb (bitAnd (word (part (now (b .entry)) 24 8)) 0x1ffcfffefef808fc) 0 ⌝ }
 {
-    (e == 0) | (e == 0x20) | (e == 0x40) | (e == 0x80)
+    wide_at(b, 24) & NEVER_SET == 0
+}
+
+// What those bits do not tell of bytes 24 to 31: the selected speed and D are not 3, and of the end flags one at most is set.
+fn ends_in_range(m: Motor) -> bool
+    ensures { λ r. ⌜ r ≡ (leb (m .speeds .selected) 2 && leb (m .setup .d) 2 && (leb (m .ended) 0x80 && not (eqb (m .ended) 0x60))) ⌝ }
+{
+    if m.speeds.selected <= 2 {
+        if m.setup.d <= 2 {
+            if m.ended <= 0x80 {
+                !(m.ended == 0x60)
+            } else {
+                false
+            }
+        } else {
+            false
+        }
+    } else {
+        false
+    }
+}
+
+// Whether the fields of one byte are in their ranges, bytes 24 to 31: those of the motor that the record holds.
+fn bytes_in_range(b: &[u8], m: Motor) -> bool
+    requires { ⌜ (length (now b) ≡ 64) × (m ≡ motorOf (now b)) ⌝ }
+    ensures { λ r. ⌜ r ≡ (leb (m .speeds .selected) 2 && wiringInRange (m .wiring) && setupInRange (m .setup) && endFlagsInRange (m .ended)) ⌝ }
+{
+    if bits_clear(b) {
+        ends_in_range(m)
+    } else {
+        false
+    }
+}
+
+// Whether the position, the settings and the end flags are in their ranges, bytes 0 to 31.
+fn settings_sound(b: &[u8]) -> bool
+    requires { ⌜ length (now b) ≡ 64 ⌝ }
+    ensures { λ r. ⌜ r ≡ (settingsInRange (motorOf (now (b .entry))) && endFlagsInRange (motorOf (now (b .entry)) .ended)) ⌝ }
+{
+    let m = read_motor(b);
+    let speeds = m.speeds;
+    if places_in_range(m) {
+        if are_speeds(speeds) {
+            bytes_in_range(b, m)
+        } else {
+            false
+        }
+    } else {
+        false
+    }
 }
 
 fn drive_in_range(d: Drive) -> bool
     ensures { λ r. ⌜ r ≡ driveInRange d ⌝ }
 {
-    (d.going <= 2) & (d.kind <= 1) & (d.fraction <= 999) & is_position(d.target)
-}
-
-// Whether the position and the settings of a motor are in their ranges.
-fn settings_in_range(m: Motor) -> bool
-    ensures { λ r. ⌜ r ≡ settingsInRange m ⌝ }
-{
-    let limits = m.limits;
-    let speeds = m.speeds;
-    let wiring = m.wiring;
-    let setup = m.setup;
-    is_position(m.place)
-        & limits_in_range(limits)
-        & speeds_in_range(speeds)
-        & wiring_in_range(wiring)
-        & setup_in_range(setup)
-}
-
-// Whether every field of a motor is in its range.
-fn in_range(m: Motor) -> bool
-    ensures { λ r. ⌜ r ≡ inRange m ⌝ }
-{
-    let drive = m.drive;
-    settings_in_range(m) & end_flags_in_range(m.ended) & drive_in_range(drive)
+    if (d.going <= 2) & (d.kind <= 1) {
+        (d.fraction <= 999) & is_position(d.target)
+    } else {
+        false
+    }
 }
 
 // Whether the drive of a stopped motor is none.
@@ -144,21 +190,47 @@ fn at_rest(d: Drive) -> bool
     (d.kind == 0) & (d.fraction == 0) & (d.speed == 0) & (d.target == ORIGIN)
 }
 
-// Whether a target lies strictly ahead, or a scan has none.
-fn aim_right(m: Motor) -> bool
-    ensures { λ r. ⌜ r ≡ aimRight m ⌝ }
+// Whether a target lies strictly ahead in a direction, or a scan has none.
+fn aim_right(going: u8, m: Motor) -> bool
+    ensures { λ r. ⌜ r ≡ cond (eqb (m .drive .kind) 1) (leb 1 (ahead going (m .place) (m .drive .target))) (eqb (m .drive .target) origin) ⌝ }
 {
-    let left = pulses_ahead(m.drive.going, m.place, m.drive.target);
-    choose_test(m.drive.kind == 1, 1 <= left, m.drive.target == ORIGIN)
+    if m.drive.kind == 1 {
+        1 <= pulses_ahead(going, m.place, m.drive.target)
+    } else {
+        m.drive.target == ORIGIN
+    }
 }
 
-// Whether a driving motor keeps the rules for one.
+// Whether a motor has room, no active enabled switch ahead and a right aim in a direction.
+fn is_free(going: u8, m: Motor) -> bool
+    ensures { λ r. ⌜ r ≡ (leb 1 (room going m) && not (blocked going m) && cond (eqb (m .drive .kind) 1) (leb 1 (ahead going (m .place) (m .drive .target))) (eqb (m .drive .target) origin)) ⌝ }
+{
+    if 1 <= room_of(going, m) {
+        if is_blocked(going, m) {
+            false
+        } else {
+            aim_right(going, m)
+        }
+    } else {
+        false
+    }
+}
+
+// Whether a driving motor keeps the rules for one. CW has a branch of its own, so that the machine code asks for the direction
+// once and not at every rule.
 fn under_way(m: Motor) -> bool
     ensures { λ r. ⌜ r ≡ underWay m ⌝ }
 {
     let going = m.drive.going;
-    let free = (1 <= room_of(going, m)) & !is_blocked(going, m) & aim_right(m);
-    (m.ended == 0) & (m.setup.a == 1) & is_speed(m.drive.speed) & free
+    if (m.ended == 0) & (m.setup.a == 1) & is_speed(m.drive.speed) {
+        if going == CW {
+            is_free(CW, m)
+        } else {
+            is_free(going, m)
+        }
+    } else {
+        false
+    }
 }
 
 // Whether a motor drives.
@@ -168,12 +240,20 @@ pub fn is_driving(m: Motor) -> bool
     !(m.drive.going == 0)
 }
 
-// Whether a motor is sound.
-pub fn sound_motor(m: Motor) -> bool
-    ensures { λ r. ⌜ r ≡ soundMotor m ⌝ }
+// Whether the drive of a motor whose other fields are sound is sound.
+fn drive_sound(m: Motor) -> bool
+    ensures { λ r. ⌜ r ≡ (driveInRange (m .drive) && cond (driving m) (underWay m) (atRest (m .drive))) ⌝ }
 {
     let drive = m.drive;
-    in_range(m) & choose_test(is_driving(m), under_way(m), at_rest(drive))
+    if drive_in_range(drive) {
+        if is_driving(m) {
+            under_way(m)
+        } else {
+            at_rest(drive)
+        }
+    } else {
+        false
+    }
 }
 
 // Whether the bytes that no topic has are zero.
@@ -181,18 +261,58 @@ fn rest_zero(b: &[u8]) -> bool
     requires { ⌜ length (now b) ≡ 64 ⌝ }
     ensures { λ r. ⌜ r ≡ allZero (part (now (b .entry)) 44 20) ⌝ }
 {
-    (long_at(b, 44) == 0)
-        & ((long_at(b, 48) == 0)
-            & ((long_at(b, 52) == 0) & ((long_at(b, 56) == 0) & (long_at(b, 60) == 0))))
+    if long_at(b, 44) == 0 {
+        if wide_at(b, 48) == 0 {
+            wide_at(b, 56) == 0
+        } else {
+            false
+        }
+    } else {
+        false
+    }
+}
+
+// Whether the bytes from the target on are zero.
+fn target_zero(b: &[u8]) -> bool
+    requires { ⌜ length (now b) ≡ 64 ⌝ }
+    ensures { λ r. ⌜ r ≡ allZero (part (now (b .entry)) 40 24) ⌝ }
+{
+    if wide_at(b, 40) == 0 {
+        if wide_at(b, 48) == 0 {
+            wide_at(b, 56) == 0
+        } else {
+            false
+        }
+    } else {
+        false
+    }
+}
+
+// Whether 64 bytes are a sound record. Most motors stand, and so have zeros from byte 32 on; then nothing else is asked there.
+fn sound_bytes(b: &[u8]) -> bool
+    requires { ⌜ length (now b) ≡ 64 ⌝ }
+    ensures { λ r. ⌜ r ≡ soundRecord (now (b .entry)) ⌝ }
+{
+    if wide_at(b, 32) == 0 {
+        if target_zero(b) {
+            settings_sound(b)
+        } else {
+            false
+        }
+    } else if rest_zero(b) {
+        if settings_sound(b) {
+            drive_sound(read_motor(b))
+        } else {
+            false
+        }
+    } else {
+        false
+    }
 }
 
 // Whether bytes are a sound record: bytes of any number and any value are judged.
 pub fn sound_record(b: &[u8]) -> bool
     ensures { λ r. ⌜ r ≡ soundRecord (now (b .entry)) ⌝ }
 {
-    if b.len() == 64 {
-        sound_motor(read_motor(b)) & rest_zero(b)
-    } else {
-        false
-    }
+    if b.len() == 64 { sound_bytes(b) } else { false }
 }

@@ -1,12 +1,14 @@
 -- Laws of a tick's pulses, for every motor, sound or not. Assumes nothing.
 use mathlib.Core.Path.{_≡_, refl}
-use mathlib.Core.Bool.{Bool, true, false}
-use Prim.Native.Nat.{_+_, _*_, _<_, _≤_}
+use mathlib.Core.Bool.{Bool, true, false, cond}
+use Prim.Native.Nat.{ℕ, _+_, _*_, _<_, _≤_}
 use native.Mathlib.Nat.{div-add-mod, mod-lt}
 use native.Mathlib.Omega.{arith}
+use lib.Dec.{eqb}
+use Rattle.digits.specs.Places.{cw, countOf}
 use Rattle.record.specs.declared.Motor.{Motor}
 use Rattle.motor.specs.Sound.{driving}
-use Rattle.pulses.specs.Ticks.{tickSpeed, due, rest, toTarget, distanceLeft, roomLeft, given, tickMotor}
+use Rattle.pulses.specs.Ticks.{tickSpeed, due, rest, toTarget, distanceLeft, roomLeft, given, tickMotor, tickCount}
 
 -- Nothing is rounded: what is due and what is carried are the fraction and the speed, to the thousandth, and less than a
 -- pulse is carried.
@@ -39,3 +41,16 @@ given-distance m e = rw e (omega arith)
 pub stopped-given-none : (m : Motor) → driving m ≡ false → tickMotor m ≡ record { motor = m; pulses = 0 }
 unfolding tickMotor
 stopped-given-none m e = rw e
+
+-- Its count is 0: no pulses are counted 0 in either direction.
+none-counted : (going : ℕ) → countOf going 0 ≡ 0
+unfolding countOf
+none-counted going = go (eqb going cw)
+  where
+    go : (t : Bool) → _≡_ {A = ℕ} (cond t 0 0) 0
+    go true = refl
+    go false = refl
+
+pub stopped-count : (m : Motor) → driving m ≡ false → tickCount m ≡ 0
+unfolding tickCount
+stopped-count m e = rw (stopped-given-none m e) (none-counted _)

@@ -2,6 +2,7 @@
 // rule of the bench says stands in specs/.
 
 use digits::choose;
+use digits::places::CW;
 use digits::places::place_ahead;
 use digits::places::pulses_ahead;
 use digits::smaller;
@@ -60,80 +61,100 @@ fn new_fraction(m: Motor) -> u16
     (thousandths(m) % 1000) as u16
 }
 
-// How far the target lies ahead.
-fn distance_left(m: Motor) -> u32
+// How far the target lies ahead. This and what follows are given the direction of the drive beside the motor, so that `tick` can
+// name it and the code for CW and the code for CCW need not ask again.
+fn distance_left(going: u8, m: Motor) -> u32
+    requires { ⌜ going ≡ m .drive .going ⌝ }
     ensures { λ r. ⌜ r ≡ distanceLeft m ⌝ }
 {
-    pulses_ahead(m.drive.going, m.place, m.drive.target)
+    pulses_ahead(going, m.place, m.drive.target)
 }
 
 // The most that room and, for a target, the distance left allow.
-fn allowed_pulses(m: Motor) -> u32
+fn allowed_pulses(going: u8, m: Motor) -> u32
+    requires { ⌜ going ≡ m .drive .going ⌝ }
     ensures { λ r. ⌜ r ≡ allowed m ⌝ }
 {
-    let room = room_of(m.drive.going, m);
-    choose(m.drive.kind == 1, smaller(room, distance_left(m)), room)
+    let room = room_of(going, m);
+    let left = distance_left(going, m);
+    choose(m.drive.kind == 1, smaller(room, left), room)
 }
 
 // The pulses that a tick gives a driving motor: what is due, as far as it is allowed.
-fn given_pulses(m: Motor) -> u32
+fn given_pulses(going: u8, m: Motor) -> u32
+    requires { ⌜ going ≡ m .drive .going ⌝ }
     ensures { λ r. ⌜ r ≡ given m ⌝ }
 {
-    smaller(due_pulses(m), allowed_pulses(m))
+    smaller(due_pulses(m), allowed_pulses(going, m))
 }
 
-// Whether this tick reaches the target.
-fn is_reached(m: Motor) -> bool
+// Whether this tick reaches the target. This and what follows are given the pulses of this tick too.
+fn is_reached(going: u8, n: u32, m: Motor) -> bool
+    requires { ⌜ (going ≡ m .drive .going) × (n ≡ given m) ⌝ }
     ensures { λ r. ⌜ r ≡ reached m ⌝ }
 {
-    (m.drive.kind == 1) & (given_pulses(m) == distance_left(m))
+    (m.drive.kind == 1) & (n == distance_left(going, m))
 }
 
 // Whether this tick uses up the room.
-fn is_used_up(m: Motor) -> bool
+fn is_used_up(going: u8, n: u32, m: Motor) -> bool
+    requires { ⌜ (going ≡ m .drive .going) × (n ≡ given m) ⌝ }
     ensures { λ r. ⌜ r ≡ usedUp m ⌝ }
 {
-    given_pulses(m) == room_of(m.drive.going, m)
+    n == room_of(going, m)
 }
 
 // The motor moved by the pulses of this tick.
-fn advance(m: Motor) -> Motor
+fn advance(going: u8, n: u32, m: Motor) -> Motor
+    requires { ⌜ (going ≡ m .drive .going) × (n ≡ given m) ⌝ }
     ensures { λ r. ⌜ r ≡ advanced m ⌝ }
 {
-    let to = place_ahead(m.drive.going, m.place, given_pulses(m));
+    let to = place_ahead(going, m.place, n);
     with_place(m, to as u32)
 }
 
 // The motor moved, with its drive going on and the new fraction carried.
-fn go_on(m: Motor) -> Motor
+fn go_on(going: u8, n: u32, m: Motor) -> Motor
+    requires { ⌜ (going ≡ m .drive .going) × (n ≡ given m) ⌝ }
     ensures { λ r. ⌜ r ≡ goesOn m ⌝ }
 {
     let mut d = m.drive;
     d.fraction = new_fraction(m);
-    with_drive(advance(m), m.ended, d)
+    with_drive(advance(going, n, m), m.ended, d)
 }
 
 // A driving motor after this tick.
-fn drive_on(m: Motor) -> Motor
+fn drive_on(going: u8, n: u32, m: Motor) -> Motor
+    requires { ⌜ (going ≡ m .drive .going) × (n ≡ given m) ⌝ }
     ensures { λ r. ⌜ r ≡ drivenOn m ⌝ }
 {
-    if is_reached(m) {
-        return end_drive(advance(m), 0);
+    if is_reached(going, n, m) {
+        return end_drive(advance(going, n, m), 0);
     }
-    if is_used_up(m) {
-        return end_drive(advance(m), LSEND);
+    if is_used_up(going, n, m) {
+        return end_drive(advance(going, n, m), LSEND);
     }
-    go_on(m)
+    go_on(going, n, m)
+}
+
+// One tick of a driving motor, in the direction of its drive.
+fn tick_driving(going: u8, m: Motor) -> Ticked
+    requires { ⌜ going ≡ m .drive .going ⌝ }
+    ensures { λ r. ⌜ r ≡ record { motor = drivenOn m; pulses = given m } ⌝ }
+{
+    let pulses = given_pulses(going, m);
+    let motor = drive_on(going, pulses, m);
+    Ticked { motor, pulses }
 }
 
 // One tick of one motor: the motor after it and the pulses that it was given; a stopped motor stays and gets none.
 pub fn tick(m: Motor) -> Ticked
     ensures { λ r. ⌜ r ≡ tickMotor m ⌝ }
 {
-    if is_driving(m) {
-        let pulses = given_pulses(m);
-        let motor = drive_on(m);
-        Ticked { motor, pulses }
+    if m.drive.going == CW {
+        tick_driving(CW, m)
+    } else if is_driving(m) {
+        tick_driving(m.drive.going, m)
     } else {
         Ticked {
             motor: m,

@@ -10,19 +10,19 @@ use lib.Seq.{take-all, length-take-le}
 use lib.Dec.{leb}
 use borrow.Author.Tests.{leb-true, leb-false}
 use Rattle.text.specs.Text.{same}
-use Rattle.line.specs.declared.Field.{Field}
+use Rattle.line.specs.declared.Order.{Order}
 use Rattle.line.specs.declared.Got.{Got}
 use Rattle.line.specs.declared.Got.the-variants.{Here, Absent}
 use Rattle.line.specs.declared.Parsed.{Parsed}
 use Rattle.line.specs.declared.Parsed.the-variants.{Is, Nothing}
-use Rattle.line.specs.Shapes.{noFields, readField, readFields, onward, readFirst, readShape}
+use Rattle.line.specs.Shapes.{noFields, readFields}
 use Rattle.line.specs.Forms.{Row, forms, those, complete, fieldsAsRow, asRow, firstOf, firstForm, orderOf}
 use Rattle.line.proofs.StencilLaws.{fits, apart, ends, letters, word-fits}
 use Rattle.line.proofs.FormLaws.{outline, apart-nothing}
 use Rattle.form.specs.declared.Word.{Word}
-use Rattle.form.specs.Table.{packed, isWord, rowsBy, shapeOf, fieldsBy, orderBy, shapeAfter, orderWith}
+use Rattle.form.specs.Table.{packed, isWord, rowsBy, Numbers}
 use Rattle.form.specs.Computing.{computing-form}
-use Rattle.reader.specs.Finding.{longest, wordAt, whole, caseAt, orderAt}
+use Rattle.reader.specs.Finding.{longest, wordAt, whole, caseBy, caseAt, orderAt}
 use Rattle.reader.proofs.LetterLaws.{same-equal, same-itself, longest-whole}
 
 -- what holds of every row
@@ -120,44 +120,10 @@ within-line (r ∷ rs) s n h = go (leb (length (r .word)) n) refl (within-line r
         let l : n < length (r .word) = leb-false (length (r .word)) n e in
         rw (e, no-word r s (absent (same (take (length (r .word)) s) (r .word)) l refl)) i
 
--- Fields read by three are the fields read one after the other.
-shape-fields : (ks : List Field) (s : List ℕ) (at : ℕ) → length ks ≤ 3 → readShape (shapeOf ks) s at ≡ readFields ks noFields s at
-unfolding readFirst readFields
-shape-fields [] s at h = refl
-shape-fields (a ∷ []) s at h = go (readField a noFields s at)
-  where
-    go : (t : Got) → onward (onward t (λ f to. Here f to)) (λ f to. Here f to) ≡ onward t (λ f to. Here f to)
-    go (Here f to) = refl
-    go Absent = refl
-shape-fields (a ∷ b ∷ []) s at h = go (readField a noFields s at)
-  where
-    go : (t : Got) → onward (onward t (λ f to. readField b f s to)) (λ f to. Here f to) ≡ onward t (λ f to. onward (readField b f s to) (λ g up. Here g up))
-    go (Here f to) = refl
-    go Absent = refl
-shape-fields (a ∷ b ∷ c ∷ []) s at h = go (readField a noFields s at)
-  where
-    last : (t : Got) → t ≡ onward t (λ f to. Here f to)
-    last (Here f to) = refl
-    last Absent = refl
-
-    next : (t : Got) → onward t (λ f to. readField c f s to) ≡ onward t (λ f to. onward (readField c f s to) (λ g up. Here g up))
-    next (Here f to) = last (readField c f s to)
-    next Absent = refl
-
-    go : (t : Got) → onward (onward t (λ f to. readField b f s to)) (λ f to. readField c f s to) ≡ onward t (λ f to. onward (readField b f s to) (λ g up. onward (readField c g s up) (λ h on. Here h on)))
-    go (Here f to) = next (readField b f s to)
-    go Absent = refl
-shape-fields (a ∷ b ∷ c ∷ d ∷ ks) s at h = absurd (omega arith)
-
--- what the code makes of the first of some rows
-abbrev caseBy : List Row → List ℕ → ℕ → Parsed
-caseBy rs s at = whole (λ f. orderBy rs f Nothing) s (readShape (shapeOf (fieldsBy rs)) s at)
-
 -- A row whose word stands makes the order that the code makes of it.
-row-case : (r : Row) (rs : List Row) (w s : List ℕ) → length (r .fields) ≤ 3 → r .word ≡ w → same (take (length w) s) w ≡ true
-    → asRow r s ≡ caseBy (r ∷ rs) s (length w)
-unfolding asRow fieldsAsRow
-row-case r rs w s m e h = rw (e, h, shape-fields (r .fields) s (length w) m) (go (readFields (r .fields) noFields s (length w)))
+row-case : (r : Row) (rs : List Row) (w s : List ℕ) → r .word ≡ w → same (take (length w) s) w ≡ true → asRow r s ≡ caseBy (r ∷ rs) s (length w)
+unfolding asRow fieldsAsRow caseBy
+row-case r rs w s e h = rw (e, h) (go (readFields (r .fields) noFields s (length w)))
   where
     go : (t : Got) → complete (r .order) s t ≡ whole (λ f. Is (r .order f)) s t
     go (Here f at) = refl
@@ -165,7 +131,7 @@ row-case r rs w s m e h = rw (e, h, shape-fields (r .fields) s (length w) m) (go
 
 -- What no line has makes no order.
 never : (s : List ℕ) (at : ℕ) → caseBy [] s at ≡ Nothing
-unfolding readFirst
+unfolding readFields caseBy
 never s at = refl
 
 -- what the code answers for a word at the front of a line
@@ -173,14 +139,14 @@ abbrev answer : List ℕ → List ℕ → Parsed
 answer s w = firstOf (caseAt false (packed w) s (length w)) (caseAt true (packed w) s (length w))
 
 -- One or two rows of a word that stands make the orders of its forms.
-rows-answer : (rs : List Row) (w s : List ℕ) → length rs ≤ 2 → Every (λ r. length (r .fields) ≤ 3) rs → Every (λ r. r .word ≡ w) rs
+rows-answer : (rs : List Row) (w s : List ℕ) → length rs ≤ 2 → Every (λ r. r .word ≡ w) rs
     → same (take (length w) s) w ≡ true → firstForm rs s ≡ firstOf (caseBy rs s (length w)) (caseBy (drop 1 rs) s (length w))
 unfolding firstForm Every
-rows-answer [] w s l m e h = rw (never s (length w))
-rows-answer (r ∷ []) w s l m e h = rw (row-case r [] w s (m .0) (e .0) h, never s (length w))
-rows-answer (r ∷ q ∷ []) w s l m e h =
-    rw (row-case r (q ∷ []) w s (m .0) (e .0) h, row-case q [] w s (m .1 .0) (e .1 .0) h, first-nothing (caseBy (q ∷ []) s (length w)))
-rows-answer (a ∷ b ∷ c ∷ rs) w s l m e h = absurd (omega arith)
+rows-answer [] w s l e h = rw (never s (length w))
+rows-answer (r ∷ []) w s l e h = rw (row-case r [] w s (e .0) h, never s (length w))
+rows-answer (r ∷ q ∷ []) w s l e h =
+    rw (row-case r (q ∷ []) w s (e .0) h, row-case q [] w s (e .1 .0) h, first-nothing (caseBy (q ∷ []) s (length w)))
+rows-answer (a ∷ b ∷ c ∷ rs) w s l e h = absurd (omega arith)
 
 -- What is computed over the table, for each row's word: the rows that a line may have which begins with it, of no longer words,
 -- are the rows of that word; they are one or two, the second of them by itself too.
@@ -188,13 +154,7 @@ record Alike (r : Row) : Type 0 where
   rows : like (r .word) (below (length (r .word)) forms) ≡ rowsBy false (packed (r .word))
   second : rowsBy true (packed (r .word)) ≡ drop 1 (rowsBy false (packed (r .word)))
   few : length (rowsBy false (packed (r .word))) ≤ 2
-  fields : Every (λ q. length (q .fields) ≤ 3) (rowsBy false (packed (r .word)))
   words : Every (λ q. q .word ≡ r .word) (rowsBy false (packed (r .word)))
-
-every-few : (rs : List Row) → map (λ q. leb (length (q .fields)) 3) rs ≡ map (λ q. true) rs → Every (λ q. length (q .fields) ≤ 3) rs
-unfolding Every
-every-few [] h = tt
-every-few (r ∷ rs) h = (leb-true (length (r .fields)) 3 (head-eq-of-cons-eq h), every-few rs (tail-eq-of-cons-eq h))
 
 abbrev rowsOf : Row → List Row
 rowsOf r = rowsBy false (packed (r .word))
@@ -202,43 +162,41 @@ rowsOf r = rowsBy false (packed (r .word))
 every-alike : (rs : List Row) → map (λ r. like (r .word) (below (length (r .word)) forms)) rs ≡ map rowsOf rs
     → map (λ r. rowsBy true (packed (r .word))) rs ≡ map (λ r. drop 1 (rowsOf r)) rs
     → map (λ r. leb (length (rowsOf r)) 2) rs ≡ map (λ r. true) rs
-    → map (λ r. map (λ q. leb (length (q .fields)) 3) (rowsOf r)) rs ≡ map (λ r. map (λ q. true) (rowsOf r)) rs
     → map (λ r. map (λ q. q .word) (rowsOf r)) rs ≡ map (λ r. map (λ q. r .word) (rowsOf r)) rs → Every Alike rs
 unfolding Every
-every-alike [] a b c d e = tt
-every-alike (r ∷ rs) a b c d e =
+every-alike [] a b c e = tt
+every-alike (r ∷ rs) a b c e =
     let one : Alike r =
     record {
       rows = head-eq-of-cons-eq a;
       second = head-eq-of-cons-eq b;
       few = leb-true (length (rowsOf r)) 2 (head-eq-of-cons-eq c);
-      fields = every-few (rowsOf r) (head-eq-of-cons-eq d);
       words = every-map (λ q. q .word) (λ q. r .word) (rowsOf r) (head-eq-of-cons-eq e);
     } in
-    (one, every-alike rs (tail-eq-of-cons-eq a) (tail-eq-of-cons-eq b) (tail-eq-of-cons-eq c) (tail-eq-of-cons-eq d) (tail-eq-of-cons-eq e))
+    (one, every-alike rs (tail-eq-of-cons-eq a) (tail-eq-of-cons-eq b) (tail-eq-of-cons-eq c) (tail-eq-of-cons-eq e))
 
 forms-alike : Every Alike forms
 unfolding computing-form
-forms-alike = every-alike forms refl refl refl refl refl
+forms-alike = every-alike forms refl refl refl refl
 
 -- The word of a row, where it stands and no longer one counts.
 row-answer : (r : Row) (s : List ℕ) → Alike r → same (take (length (r .word)) s) (r .word) ≡ true
     → firstForm (below (length (r .word)) forms) s ≡ answer s (r .word)
-unfolding caseAt shapeAfter orderWith
+unfolding caseAt
 row-answer r s k h =
     let n = length (r .word) in
     narrow (r .word) s (below n forms) h
-    ∙ (rw (k .rows) (rows-answer (rowsOf r) (r .word) s (k .few) (k .fields) (k .words) h)
+    ∙ (rw (k .rows) (rows-answer (rowsOf r) (r .word) s (k .few) (k .words) h)
     ∙ ap (λ (rs : List Row). firstOf (caseBy (rowsOf r) s n) (caseBy rs s n)) (sym (k .second)))
 
 no-case : (second : Bool) (s : List ℕ) (at : ℕ) → caseAt second 0 s at ≡ Nothing
-unfolding computing-form caseAt
+unfolding computing-form caseBy caseAt
 no-case false s at = refl
 no-case true s at = refl
 
 -- Where no word stands there is no order.
 none-answer : (s : List ℕ) → firstForm (below 0 forms) s ≡ answer s []
-unfolding computing-form caseAt
+unfolding computing-form caseBy caseAt
 none-answer s = refl
 
 -- The longest word of n letters at most decides among the rows of such words.
@@ -279,6 +237,39 @@ eight s = go (leb (length s) 8) refl
         ∙ (longest-answer (length s) s (omega arith)
         ∙ ap (answer s) (sym (longest-whole (8 - length s) s) ∙ (rw k)))
     go false e = rw (← forms-below) (longest-answer 8 s (omega (arith, leb-false (length s) 8 e)))
+
+-- What rows make is what the first of them makes.
+case-first : (rs : List Row) (s : List ℕ) (at : ℕ) → caseBy (take 1 rs) s at ≡ caseBy rs s at
+unfolding caseBy
+case-first [] s at = refl
+case-first (r ∷ rs) s at = refl
+
+-- So a row by its number makes what the rows make whose first it is.
+numbered-case : (n : ℕ) (rs : List Row) (s : List ℕ) (at : ℕ) → Numbers n rs → caseBy (drop n forms) s at ≡ caseBy rs s at
+numbered-case n rs s at h = sym (case-first (drop n forms) s at) ∙ (ap (λ (q : List Row). caseBy q s at) (h .row) ∙ case-first rs s at)
+
+-- the rows that are tried in turn, and what is left to find by them
+abbrev pub rowsInTurn : ℕ → ℕ → List Row
+rowsInTurn zero k = rowsBy false k
+rowsInTurn (suc n) k = rowsBy true k
+
+unfoldable pub leftToFind : ℕ → ℕ → List ℕ → ℕ → Parsed
+leftToFind zero k s at = firstOf (caseAt false k s at) (caseAt true k s at)
+leftToFind (suc zero) k s at = caseAt true k s at
+leftToFind (suc (suc n)) k s at = Nothing
+
+-- What a row makes in its turn is found, and where it makes nothing the next turn finds the same.
+pub found : (n row k : ℕ) (s : List ℕ) (at : ℕ) (o : Order) → n < 2 → Numbers row (rowsInTurn n k) → caseBy (drop row forms) s at ≡ Is o → leftToFind n k s at ≡ Is o
+unfolding leftToFind caseAt
+found zero row k s at o h r e = rw (sym (numbered-case row (rowsBy false k) s at r) ∙ e)
+found (suc zero) row k s at o h r e = sym (numbered-case row (rowsBy true k) s at r) ∙ e
+found (suc (suc n)) row k s at o h r e = absurd (omega arith)
+
+pub missed : (n row k : ℕ) (s : List ℕ) (at : ℕ) → n < 2 → Numbers row (rowsInTurn n k) → caseBy (drop row forms) s at ≡ Nothing → leftToFind n k s at ≡ leftToFind (suc n) k s at
+unfolding leftToFind caseAt
+missed zero row k s at h r e = rw (sym (numbered-case row (rowsBy false k) s at r) ∙ e)
+missed (suc zero) row k s at h r e = sym (numbered-case row (rowsBy true k) s at r) ∙ e
+missed (suc (suc n)) row k s at h r e = absurd (omega arith)
 
 -- Without a word there is no order, whatever the place.
 pub no-order : (s : List ℕ) (at : ℕ) (w : Word) → w .letters ≡ 0 → orderAt s at w ≡ Nothing

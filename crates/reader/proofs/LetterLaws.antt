@@ -3,22 +3,23 @@
 use mathlib.Core.Path.{_≡_, refl, sym, ap, _∙_}
 use mathlib.Core.List.{List, [], _∷_, _++_, reverse, reverse-cons, reverse-append, reverse-reverse}
 use mathlib.Core.Bool.{Bool, true, false, _&&_, _||_, cond, and-eq-true-iff, false≢true}
-use Prim.Native.Nat.{ℕ, zero, suc, _+_, _*_, _-_, _<_, _≤_, min}
+use Prim.Native.Char.{code}
+use Prim.Native.Nat.{ℕ, zero, suc, _+_, _*_, _-_, _/_, _<_, _≤_, min}
 use native.Mathlib.Nat.{add-zero, add-suc, not-suc-le-zero}
 use native.Mathlib.Omega.{arith}
-use lib.ListN.{length, take, getD}
+use lib.ListN.{length, take, drop, getD, drop-of-length-le}
 use lib.Seq.{take-suc, take-all, length-take-le, getD-take}
 use lib.Dec.{eqb, ltb, leb}
-use borrow.Author.Tests.{eqb-true, eq-eqb, ne-eqb, lt-ltb, ltb-true, leb-true, leb-false}
-use Rattle.digits.specs.Bytes.{AllBytes, part}
+use borrow.Author.Tests.{eqb-true, eq-eqb, ne-eqb, lt-ltb, ltb-true, ltb-false, leb-true, leb-false}
+use Rattle.digits.specs.Bytes.{AllBytes}
 use Rattle.digits.specs.Words.{word}
 use Rattle.text.specs.Text.{same, bytes}
-use Rattle.digits.proofs.PartLaws.{append-bytes, cons-bytes, none-bytes, part-bytes}
+use Rattle.digits.proofs.PartLaws.{append-bytes, cons-bytes, none-bytes}
 use Rattle.line.specs.Forms.{Row, forms, those}
-use Rattle.form.specs.Table.{packed, rowsWith, isWord, rowsBy, shapeOf, fieldsBy, shapeAfter}
+use Rattle.form.specs.Table.{packed, rowsWith, isWord, rowsBy, Numbers}
 use Rattle.form.specs.Computing.{computing-form}
 use Rattle.form.specs.declared.Word.{Word}
-use Rattle.reader.specs.Finding.{isThere, someRow, longest, isLetter, lettersAtFront, marked, letterCount}
+use Rattle.reader.specs.Finding.{someRow, longest, isLetter, lettersAtFront, marked, letterCount}
 
 -- Two texts that are the same are equal, and a text is the same as itself.
 pub same-equal : (s t : List ℕ) → same s t ≡ true → s ≡ t
@@ -300,44 +301,86 @@ pub marked-none : (at : ℕ) → _≡_ {A = Word} (record { letters = 0; end = a
 unfolding packed word
 marked-none at = rw (add-zero at)
 
--- One letter more: the letters so far are the longest word, or it stays what it was.
-pub longer-word : (t : List ℕ) (at n k : ℕ) (w : Word) → n < letterCount t → AllBytes t → k ≡ packed (take (suc n) t) → w ≡ marked at (longest n t)
-    → cond (someRow (rowsWith k forms)) (record { letters = k; end = at + suc n }) w ≡ marked at (longest (suc n) t)
-unfolding longest part
-longer-word t at n k w h f e p =
+-- The letters at the front of a line are bytes.
+pub letter-small : (b : ℕ) → isLetter b ≡ true → b < 256
+letter-small b e = go (leb b (code "_")) refl (eqb b (code "?")) refl (eqb b (code " ")) refl e
+  where
+    go : (u : Bool) → leb b (code "_") ≡ u → (q : Bool) → eqb b (code "?") ≡ q → (w : Bool) → eqb b (code " ") ≡ w → ((leb (code "A") b && u) || (q || w)) ≡ true → b < 256
+    go true p q f w g h = omega (arith, leb-true b (code "_") p)
+    go false p true f w g h = omega (arith, eqb-true b (code "?") f)
+    go false p false f true g h = omega (arith, eqb-true b (code " ") g)
+    go false p false f false g h = absurd (none (leb (code "A") b) h)
+      where
+        none : (v : Bool) → ((v && false) || false) ≡ true → ⊥
+        none true h = false≢true h
+        none false h = false≢true h
+
+front-bytes : (n : ℕ) (s : List ℕ) → n ≤ lettersAtFront s → AllBytes (take n s)
+unfolding lettersAtFront
+front-bytes zero s h = none-bytes
+front-bytes (suc n) [] h = none-bytes
+front-bytes (suc n) (b ∷ s) h = go (isLetter b) refl h (front-bytes n s)
+  where
+    go : (t : Bool) → isLetter b ≡ t → suc n ≤ cond t (suc (lettersAtFront s)) 0 → (n ≤ lettersAtFront s → AllBytes (take n s)) → AllBytes (b ∷ take n s)
+    go true e h later = cons-bytes b (take n s) (letter-small b e) (later (omega arith))
+    go false e h later = absurd (not-suc-le-zero h)
+
+-- Letters that are looked at are a word where their number has a row.
+letters-word : (t : List ℕ) (n : ℕ) → n < letterCount t → someRow (rowsWith (packed (take (suc n) t)) forms) ≡ isWord forms (take (suc n) t)
+letters-word t n h =
     let i = count-within t n h in
+    word-number (take (suc n) t) (record { bytes = front-bytes (suc n) t (omega arith); first = rw (getD-take (suc n) t 0 0 (omega arith)) (i .2) })
+
+-- The letters that are left are the longest word where they are one, and else the longest is among fewer.
+pub word-here : (t : List ℕ) (at n : ℕ) → 0 < n → n ≤ letterCount t → someRow (rowsWith (packed (take n t)) forms) ≡ true
+    → _≡_ {A = Word} (record { letters = packed (take n t); end = at + n }) (marked at (longest n t))
+unfolding longest
+word-here t at zero z h e = absurd (omega arith)
+word-here t at (suc n) z h e =
+    let i = count-within t n (omega arith) in
     let l : length (take (suc n) t) ≡ suc n = length-take-le (suc n) t (omega arith) in
-    let q : Lettered (take (suc n) t) = record { bytes = part-bytes t 0 (suc n) f; first = rw (getD-take (suc n) t 0 0 (omega arith)) (i .2) } in
-    rw (e, word-number (take (suc n) t) q, p) (go (isWord forms (take (suc n) t)) l)
+    let w : isWord forms (take (suc n) t) ≡ true = sym (letters-word t n (omega arith)) ∙ e in
+    rw (w, l)
+
+pub word-shorter : (t : List ℕ) (n : ℕ) → 0 < n → n ≤ letterCount t → someRow (rowsWith (packed (take n t)) forms) ≡ false → longest n t ≡ longest (n - 1) t
+unfolding longest
+word-shorter t zero z h e = absurd (omega arith)
+word-shorter t (suc n) z h e =
+    let w : isWord forms (take (suc n) t) ≡ false = sym (letters-word t n (omega arith)) ∙ e in
+    let fewer : suc n - 1 ≡ n = omega arith in
+    rw (w, fewer)
+
+-- The number of one letter fewer.
+pub packed-fewer : (t : List ℕ) (n : ℕ) → 0 < n → n ≤ letterCount t → packed (take n t) / 256 ≡ packed (take (n - 1) t)
+packed-fewer t zero z h = absurd (omega arith)
+packed-fewer t (suc n) z h =
+    let i = count-within t n (omega arith) in
+    let b : getD t n 0 < 256 = rw (getD-take (suc n) t n 0 (omega arith)) at (front-bytes (suc n) t (omega arith) n) in
+    let fewer : suc n - 1 ≡ n = omega arith in
+    rw (packed-more t n (i .1), fewer) (omega arith)
+
+-- Rows dropped from a list leave some where it has more.
+some-left : (n : ℕ) (rs : List Row) → n < length rs → someRow (drop n rs) ≡ true
+some-left n [] h = absurd (omega arith)
+some-left zero (r ∷ rs) h = refl
+some-left (suc n) (r ∷ rs) h = some-left n rs (omega arith)
+
+some-first : (rs : List Row) → someRow (take 1 rs) ≡ someRow rs
+some-first [] = refl
+some-first (r ∷ rs) = refl
+
+forms-count : length forms ≡ 41
+unfolding computing-form
+forms-count = refl
+
+-- Letters are a word where the number of their row is below that of none.
+pub number-row : (n k : ℕ) → Numbers n (rowsBy false k) → ltb n 41 ≡ someRow (rowsWith k forms)
+unfolding rowsBy
+number-row n k h = go (ltb n 41) refl
   where
-    go : (b : Bool) → length (take (suc n) t) ≡ suc n
-        → cond b (record { letters = packed (take (suc n) t); end = at + suc n }) (marked at (longest n t)) ≡ marked at (cond b (take (suc n) t) (longest n t))
-    go true l = rw l
-    go false l = refl
+    same-row : someRow (rowsWith k forms) ≡ someRow (drop n forms)
+    same-row = sym (some-first (rowsWith k forms)) ∙ (ap someRow (sym (h .row)) ∙ some-first (drop n forms))
 
--- every row begins with a field that some line may have, or has none
-allThere : List Row → Bool
-allThere [] = true
-allThere (r ∷ rs) = isThere (shapeOf (r .fields) .first) && allThere rs
-
-there-with : (rs : List Row) (n : ℕ) → allThere rs ≡ true → isThere (shapeOf (fieldsBy (rowsWith n rs)) .first) ≡ someRow (rowsWith n rs)
-unfolding rowsWith those allThere
-there-with [] n h = refl
-there-with (r ∷ rs) n h =
-    let both = and-eq-true-iff (isThere (shapeOf (r .fields) .first)) (allThere rs) .0 h in
-    go (eqb (packed (r .word)) n) refl (both .0) (there-with rs n (both .1))
-  where
-    go : (t : Bool) → eqb (packed (r .word)) n ≡ t → isThere (shapeOf (r .fields) .first) ≡ true
-        → isThere (shapeOf (fieldsBy (rowsWith n rs)) .first) ≡ someRow (rowsWith n rs)
-        → isThere (shapeOf (fieldsBy (rowsWith n (r ∷ rs))) .first) ≡ someRow (rowsWith n (r ∷ rs))
-    go true e h i = rw (e, h)
-    go false e h i = rw e i
-
-forms-there : allThere forms ≡ true
-unfolding computing-form allThere
-forms-there = refl
-
--- Letters are a word where what follows them is there in some line.
-pub shape-there : (n : ℕ) → isThere (shapeAfter false n .first) ≡ someRow (rowsWith n forms)
-unfolding shapeAfter rowsBy
-shape-there n = there-with forms n forms-there
+    go : (t : Bool) → ltb n 41 ≡ t → t ≡ someRow (rowsWith k forms)
+    go true e = rw same-row (sym (some-left n forms (rw forms-count (ltb-true n 41 e))))
+    go false e = rw (same-row, drop-of-length-le forms {i = n} (rw forms-count (ltb-false n 41 e)))

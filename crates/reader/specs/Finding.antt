@@ -7,30 +7,14 @@ use mathlib.Core.Bool.{Bool, true, false, _&&_, _||_, cond}
 use lib.ListN.{length, take, drop}
 use lib.Dec.{leb, eqb}
 use Rattle.line.specs.declared.Fields.{Fields}
-use Rattle.line.specs.declared.Field.{Field}
-use Rattle.line.specs.declared.Field.the-variants.{Channel, Signed, Unsigned, Digit, Question, FourDigits, ZeroThree, Enable, Disable, End, Never}
 use Rattle.line.specs.declared.Got.{Got}
 use Rattle.line.specs.declared.Got.the-variants.{Here, Absent}
 use Rattle.line.specs.declared.Parsed.{Parsed}
 use Rattle.line.specs.declared.Parsed.the-variants.{Nothing}
-use Rattle.line.specs.Shapes.{readShape}
+use Rattle.line.specs.Shapes.{noFields, readFields}
 use Rattle.line.specs.Forms.{Row, forms, firstOf}
-use Rattle.form.specs.Table.{packed, isWord, shapeAfter, orderWith}
+use Rattle.form.specs.Table.{packed, isWord, rowsBy, fieldsBy, orderBy}
 use Rattle.form.specs.declared.Word.{Word}
-
--- some line may have the field
-abbrev pub isThere : Field → Bool
-isThere Channel = true
-isThere Signed = true
-isThere Unsigned = true
-isThere Digit = true
-isThere Question = true
-isThere FourDigits = true
-isThere ZeroThree = true
-isThere Enable = true
-isThere Disable = true
-isThere End = true
-isThere Never = false
 
 -- there is a row
 abbrev pub someRow : List Row → Bool
@@ -68,9 +52,13 @@ abbrev pub whole : (Fields → Parsed) → List ℕ → Got → Parsed
 whole make s (Here f at) = cond (eqb at (length s)) (make f) Nothing
 whole make s Absent = Nothing
 
+-- the order that the first of some rows makes of the fields from a place on
+unfoldable pub caseBy : List Row → List ℕ → ℕ → Parsed
+caseBy rs s at = whole (λ f. orderBy rs f Nothing) s (readFields (fieldsBy rs) noFields s at)
+
 -- the order that a word makes, by its first form or its second, of the fields from a place on
 unfoldable pub caseAt : Bool → ℕ → List ℕ → ℕ → Parsed
-caseAt second k s at = whole (orderWith second k) s (readShape (shapeAfter second k) s at)
+caseAt second k s at = caseBy (rowsBy second k) s at
 
 -- the order that a word makes with the fields from a place on
 unfoldable pub orderAt : List ℕ → ℕ → Word → Parsed

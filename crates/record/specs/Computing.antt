@@ -2,7 +2,8 @@
 -- definition that is otherwise shut. It says nothing itself.
 use Rattle.digits.specs.Computing.{computing-digits}
 use Rattle.record.specs.Record.{motorOf, settingBytes, recordOf, freshMotor}
+use Rattle.record.specs.Progress.{progressed}
 
 unfoldable pub computing-record : Unit {0}
-unfolding computing-digits motorOf settingBytes recordOf freshMotor
+unfolding computing-digits motorOf settingBytes recordOf freshMotor progressed
 computing-record = tt

@@ -2,6 +2,7 @@
 // motor and back. A position, a limit and a target are kept as places (crate digits): the number plus 2,147,483,648. What
 // stands where is said in specs/.
 
+use digits::places::ORIGIN;
 use digits::places::place_of;
 use digits::places::word_of;
 use digits::words::byte_at;
@@ -18,6 +19,7 @@ ghost use Rattle.digits.specs.Bytes.{put};
 ghost use Rattle.record.specs.Record.{placeAt, limitsOf, speedsOf, wiringOf, setupOf, driveOf, motorOf};
 ghost use Rattle.record.specs.Record.{placeBytes, limitBytes, speedBytes, wiringBytes, setupBytes, settingBytes};
 ghost use Rattle.record.specs.Record.{driveBytes, recordOf};
+ghost use Rattle.record.specs.Progress.{flagsAndDrive, progressed};
 
 // The digital limits.
 pub struct Limits {
@@ -251,4 +253,34 @@ pub fn write_motor(b: &mut [u8], m: Motor)
     put_byte(b, 31, m.ended);
     put_drive(b, drive);
     put_zeros(b);
+}
+
+// Writes the end flags and the drive alone, bytes 31 to 43: all that a stop changes.
+pub fn write_drive(b: &mut [u8], ended: u8, d: Drive)
+    requires { ⌜ length (now b) ≡ 64 ⌝ }
+    ensures { λ r. ⌜ now (b .exit) ≡ put (now (b .entry)) 31 (flagsAndDrive ended d) ⌝ }
+{
+    put_byte(b, 31, ended);
+    put_drive(b, d);
+}
+
+// Writes what a tick changes in the record of a driving motor, given the motor after it: the position, and the fraction or, if the
+// drive has ended, the end flags and no drive.
+pub fn write_progress(b: &mut [u8], m: Motor)
+    requires { ⌜ length (now b) ≡ 64 ⌝ }
+    ensures { λ r. ⌜ now (b .exit) ≡ progressed (now (b .entry)) m ⌝ }
+{
+    let none = Drive {
+        going: 0,
+        kind: 0,
+        fraction: 0,
+        speed: 0,
+        target: ORIGIN,
+    };
+    put_place(b, 0, m.place);
+    if m.drive.going == 0 {
+        write_drive(b, m.ended, none);
+    } else {
+        put_short(b, 34, m.drive.fraction);
+    }
 }

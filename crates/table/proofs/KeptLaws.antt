@@ -9,18 +9,19 @@ use lib.ListN.{length, drop}
 use lib.Dec.{eqb, ltb}
 use lib.Seq.{drop-drop}
 use borrow.Author.Tests.{eq-eqb, eqb-true, eqb-false, le-leb, leb-true, ltb-true, ltb-false}
-use Rattle.digits.specs.Bytes.{part, put, every, allZero}
+use Rattle.digits.specs.Bytes.{AllBytes, part, put, every, allZero}
 use Rattle.digits.specs.Words.{word}
+use Rattle.digits.proofs.PartLaws.{part-bytes}
 use Rattle.record.specs.declared.Motor.{Motor}
 use Rattle.record.specs.Record.{recordOf}
 use Rattle.record.proofs.RoundTrip.{record-length}
 use Rattle.motor.specs.Sound.{soundMotor, soundRecord}
 use Rattle.motor.proofs.SoundLaws.{and-l, and-r}
-use Rattle.motor.proofs.RecordLaws.{record-sound, sound-written-read}
+use Rattle.motor.proofs.RecordLaws.{record-sound, sound-written-read, sound-read-written}
 use Rattle.table.specs.Layout.{tableSize, mode, allReply, errors, withMode, withAllReply, withErrors, recordStart, recordAt, records, motorAt, withMotor, withMotors, freshTable}
 use Rattle.table.specs.Sound.{soundHead, soundTable}
 use Rattle.table.specs.Computing.{computing-table}
-use Rattle.table.proofs.PieceLaws.{each-every, part-same, part-before, part-after}
+use Rattle.table.proofs.PieceLaws.{each-every, put-back, part-same, part-before, part-after}
 use Rattle.table.proofs.TableLaws.{mode-length, reply-length, errors-length, motor-length, upTo, up-to-none, up-to-motor, up-to-next, up-to-all, sound-length, sound-record-at, sound-motor-at}
 
 -- A byte is the number of itself alone.
@@ -56,6 +57,16 @@ module _ (t : List ℕ) (c : ℕ) (m : Motor) (whole : length t ≡ tableSize) (
   pub motor-kept : (d : ℕ) → (d ≡ c → ⊥) → motorAt (withMotor t c m) d ≡ motorAt t d
   unfolding motorAt
   motor-kept d ne = rw (record-kept d ne)
+
+-- A sound record that is read and written back is the same bytes, and leaves the table as it is.
+module _ (t : List ℕ) (c : ℕ) (sound : soundRecord (recordAt t c) ≡ true) (bytes : AllBytes t) where
+  pub read-back : recordOf (motorAt t c) ≡ recordAt t c
+  unfolding motorAt
+  read-back = sound-read-written (recordAt t c) sound (part-bytes t (recordStart c) 64 bytes)
+
+  pub motor-back : length t ≡ tableSize → c ≤ 15 → withMotor t c (motorAt t c) ≡ t
+  unfolding withMotor
+  motor-back e h = rw read-back (put-back t (recordStart c) 64 (omega arith))
 
 -- A table is sound where its length is right, its head is sound and each of its records is.
 sound-from : (t : List ℕ) → length t ≡ tableSize → soundHead t ≡ true

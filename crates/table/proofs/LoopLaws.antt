@@ -1,9 +1,9 @@
 -- What the loops over the head and over the records have done after k turns. Assumes nothing.
-use mathlib.Core.Path.{_≡_, refl, sym, _∙_}
+use mathlib.Core.Path.{_≡_, refl, _∙_}
 use mathlib.Core.List.{List, _++_}
-use mathlib.Core.Bool.{Bool, true, _&&_}
-use Prim.Native.Nat.{ℕ, _+_, _*_, _-_, _≤_, _<_}
-use native.Mathlib.Nat.{zero-add}
+use mathlib.Core.Bool.{Bool, true, false, _&&_}
+use Prim.Native.Nat.{ℕ, zero, suc, _+_, _*_, _-_, _≤_, _<_}
+use native.Mathlib.Nat.{zero-add, add-zero, add-suc}
 use native.Mathlib.Numerals.{add-one}
 use native.Mathlib.Omega.{arith}
 use lib.ListN.{length, drop, replicate, length-append, length-replicate, replicate-append-replicate}
@@ -13,27 +13,36 @@ use Rattle.digits.specs.Bytes.{part, put, pieces, every, gather, allZero}
 use Rattle.digits.specs.Words.{word, wordBytes}
 use Rattle.digits.proofs.PartLaws.{part-add, zero-append}
 use Rattle.digits.proofs.PutLaws.{put-after, put-none, put-whole}
-use Rattle.digits.proofs.WordLaws.{word-zero}
+use Rattle.digits.proofs.WordLaws.{word-zero, zero-part}
 use Rattle.record.specs.Record.{recordOf, freshMotor}
 use Rattle.record.proofs.RoundTrip.{record-length}
 use Rattle.motor.specs.Sound.{soundRecord}
+use Rattle.motor.proofs.SoundLaws.{and-false}
 use Rattle.table.specs.Layout.{tableSize, recordAt, withMotor, freshTable}
 use Rattle.table.proofs.PieceLaws.{every-more, gather-length}
 
--- the bytes from 3 on are zero, up to the word of four bytes with the number k
+-- the bytes from 8 on are zero, up to the word of eight bytes with the number k
 unfoldable pub zeroTo : List ℕ → ℕ → Bool
-zeroTo t k = allZero (part t 3 (4 * k - 3))
+zeroTo t k = allZero (part t 8 (8 * k - 8))
 
-pub zero-first : (t : List ℕ) → zeroTo t 1 ≡ eqb (word (part t 3 1)) 0
-unfolding zeroTo
-zero-first t = sym (word-zero (part t 3 1))
+pub zero-first : (t : List ℕ) → zeroTo t 1 ≡ true
+unfolding zeroTo part allZero
+zero-first t = refl
 
-pub zero-next : (t : List ℕ) (k : ℕ) → 1 ≤ k → zeroTo t (k + 1) ≡ (zeroTo t k && eqb (word (part t (4 * k) 4)) 0)
+pub zero-next : (t : List ℕ) (k : ℕ) → 1 ≤ k → zeroTo t (k + 1) ≡ (zeroTo t k && eqb (word (part t (8 * k) 8)) 0)
 unfolding zeroTo
 zero-next t k h =
-    let n : 4 * (k + 1) - 3 ≡ 4 * k - 3 + 4 = omega arith in
-    let at : 3 + (4 * k - 3) ≡ 4 * k = omega arith in
-    rw (n, part-add t 3 (4 * k - 3) 4, zero-append, at, word-zero (part t (4 * k) 4))
+    let n : 8 * (k + 1) - 8 ≡ 8 * k - 8 + 8 = omega arith in
+    let at : 8 + (8 * k - 8) ≡ 8 * k = omega arith in
+    rw (n, part-add t 8 (8 * k - 8) 8, zero-append, at, word-zero (part t (8 * k) 8))
+
+-- Where eight of the bytes of the head from 8 on are not zero, those from 3 on are not.
+pub zero-fails : (t : List ℕ) (k : ℕ) → 1 ≤ k → k < 8 → eqb (word (part t (8 * k) 8)) 0 ≡ false → allZero (part t 3 61) ≡ false
+zero-fails t k h l e =
+    let n : 61 ≡ 8 * k - 3 + (8 + (56 - 8 * k)) = omega arith in
+    let at : 3 + (8 * k - 3) ≡ 8 * k = omega arith in
+    rw (n, part-add t 3 (8 * k - 3) (8 + (56 - 8 * k)), zero-append, at, zero-part t (8 * k) 8 (56 - 8 * k), e)
+    (and-false (allZero (part t 3 (8 * k - 3))))
 
 -- the first k words of four bytes zeroed
 unfoldable pub zeroedTo : List ℕ → ℕ → List ℕ
@@ -65,6 +74,11 @@ sound-none t = refl
 pub sound-next : (t : List ℕ) (k : ℕ) → soundTo t (k + 1) ≡ (soundTo t k && soundRecord (recordAt t k))
 unfolding soundTo part
 sound-next t k = rw (add-one k, every-more soundRecord 64 k (drop 64 t), drop-drop)
+
+-- Where one of the first k records is not sound, no more of them are.
+pub sound-fails : (t : List ℕ) (k n : ℕ) → soundTo t k ≡ false → soundTo t (k + n) ≡ false
+sound-fails t k zero e = rw (add-zero k) e
+sound-fails t k (suc n) e = rw (add-suc k n, ← add-one (k + n), sound-next t (k + n), sound-fails t k n e)
 
 -- the first k records made fresh
 unfoldable pub freshTo : List ℕ → ℕ → List ℕ

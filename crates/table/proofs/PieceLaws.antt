@@ -79,6 +79,19 @@ pub put-lent : (t b : List ℕ) (a n : ℕ) → length b ≡ n → take a t ++ (
 unfolding put
 put-lent t b a n e = rw (add-sub-cancel-left, drop-drop, e)
 
+-- The same where what is written is made of what stood there.
+pub put-made : (t : List ℕ) (f : List ℕ → List ℕ) (a n : ℕ) → length (f (part t a n)) ≡ n
+    → take a t ++ (f (take (a + n - a) (drop a t)) ++ drop (a + n - a) (drop a t)) ≡ put t a (f (part t a n))
+unfolding part
+put-made t f a n e = rw (← put-lent t (f (take n (drop a t))) a n e, add-sub-cancel-left)
+
+-- A part written back where it stands leaves the buffer as it is.
+pub put-back : (t : List ℕ) (at n : ℕ) → at + n ≤ length t → put t at (part t at n) ≡ t
+unfolding put part
+put-back t at n h =
+    let e : length (take n (drop at t)) ≡ n = rw (length-take, length-drop) (omega arith) in
+    rw (e, ← drop-drop n at t, take-append-drop n (drop at t), take-append-drop at t)
+
 -- What is read where it was written, before it, and after it.
 pub part-same : (t b : List ℕ) (at n : ℕ) → length b ≡ n → at ≤ length t → part (put t at b) at n ≡ b
 unfolding part put

@@ -81,10 +81,14 @@ module _ (f : Motor → Motor) (k : ℕ) (t : List ℕ) (whole : length t ≡ ta
   unfolding upTo
   rest = rw (← append-assoc (take 64 t) (changed f k t) (drop (recordStart k) t)) (drop-at (take 64 t ++ changed f k t) (drop (recordStart k) t) (recordStart k) front)
 
-  -- The motor of the next channel is the table's own.
+  -- The record of the next channel is the table's own, and so is its motor.
+  pub up-to-record : recordAt (upTo f k t) k ≡ recordAt t k
+  unfolding part
+  up-to-record = rw rest
+
   pub up-to-motor : motorAt (upTo f k t) k ≡ motorAt t k
-  unfolding motorAt part
-  up-to-motor = rw rest
+  unfolding motorAt
+  up-to-motor = rw up-to-record
 
   -- The next motor written is one motor more changed.
   pub up-to-next : withMotor (upTo f k t) k (f (motorAt (upTo f k t) k)) ≡ upTo f (k + 1) t

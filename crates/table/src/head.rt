@@ -4,6 +4,7 @@ use digits::words::byte_at;
 use digits::words::long_at;
 use digits::words::put_byte;
 use digits::words::put_long;
+use digits::words::wide_at;
 ghost use mathlib.Core.Path.{_≡_};
 ghost use lib.ListN.{length, replicate};
 ghost use Rattle.digits.specs.Bytes.{part, put, allZero};
@@ -56,18 +57,20 @@ pub fn set_errors(t: &mut [u8], k: u8)
     put_byte(t, 2, k)
 }
 
-// Whether the bytes of the head that no field has, 3 to 63, are zero: byte 3, and then words of four bytes.
+// Whether the bytes of the head that no field has, 3 to 63, are zero: byte 3, a word of four bytes, and then words of eight.
 fn head_zero(t: &[u8]) -> bool
     requires { ⌜ length (now t) ≡ tableSize ⌝ }
     ensures { λ r. ⌜ r ≡ allZero (part (now (t .entry)) 3 61) ⌝ }
 {
-    let mut zero = byte_at(t, 3) == 0;
     let mut k: usize = 1;
-    while k < 16 {
-        zero = zero & (long_at(t, 4 * k) == 0);
-        k += 1;
+    while k < 8 {
+        if wide_at(t, 8 * k) == 0 {
+            k += 1;
+        } else {
+            return false;
+        }
     }
-    zero
+    (byte_at(t, 3) == 0) & (long_at(t, 4) == 0)
 }
 
 // Whether a head is sound.
@@ -75,7 +78,11 @@ pub fn sound_head(t: &[u8]) -> bool
     requires { ⌜ length (now t) ≡ tableSize ⌝ }
     ensures { λ r. ⌜ r ≡ soundHead (now (t .entry)) ⌝ }
 {
-    (mode_of(t) <= 1) & (all_reply_of(t) <= 1) & (errors_of(t) <= 15) & head_zero(t)
+    if (mode_of(t) <= 1) & (all_reply_of(t) <= 1) & (errors_of(t) <= 15) {
+        head_zero(t)
+    } else {
+        false
+    }
 }
 
 // Zeroes the head, by words of four bytes.

@@ -14,12 +14,16 @@ use record::Setup;
 use record::Speeds;
 use record::Wiring;
 use record::read_motor;
+use record::write_drive;
 use record::write_motor;
+use record::write_progress;
 ghost use mathlib.Core.Path.{_≡_};
 ghost use Prim.Native.Nat.{_≤_};
+ghost use lib.Dec.{eqb};
 ghost use lib.ListN.{length};
 ghost use Rattle.digits.specs.Bytes.{put, every, gather};
 ghost use Rattle.record.specs.Record.{recordOf, freshMotor, standing};
+ghost use Rattle.record.specs.Progress.{flagsAndDrive, progressed};
 ghost use Rattle.motor.specs.Sound.{soundRecord};
 ghost use Rattle.table.specs.Layout.{tableSize, recordStart, recordAt, records, motorAt, withMotor, freshTable};
 ghost use Rattle.table.specs.Sound.{soundTable};
@@ -52,6 +56,27 @@ pub fn put_motor(t: &mut [u8], c: u8, m: Motor)
     write_motor(&mut t[start..end], m)
 }
 
+// Writes the end flags and the drive of a channel's record, given the motor that has them; every other byte stays as it is.
+pub fn put_drive(t: &mut [u8], c: u8, m: Motor)
+    requires { ⌜ (length (now t) ≡ tableSize) × (c ≤ 15) ⌝ }
+    ensures { λ _. ⌜ now (t .exit) ≡ put (now (t .entry)) (recordStart c) (put (recordAt (now (t .entry)) c) 31 (flagsAndDrive (m .ended) (m .drive))) ⌝ }
+{
+    let start = record_start(c);
+    let end = start + 64;
+    let drive = m.drive;
+    write_drive(&mut t[start..end], m.ended, drive)
+}
+
+// Writes what a tick changes in a channel's record, given the motor after it; every other byte stays as it is.
+pub fn put_progress(t: &mut [u8], c: u8, m: Motor)
+    requires { ⌜ (length (now t) ≡ tableSize) × (c ≤ 15) ⌝ }
+    ensures { λ _. ⌜ now (t .exit) ≡ put (now (t .entry)) (recordStart c) (progressed (recordAt (now (t .entry)) c) m) ⌝ }
+{
+    let start = record_start(c);
+    let end = start + 64;
+    write_progress(&mut t[start..end], m)
+}
+
 // Whether the record of a channel is sound.
 fn sound_at(t: &[u8], c: u8) -> bool
     requires { ⌜ (length (now t) ≡ tableSize) × (c ≤ 15) ⌝ }
@@ -62,18 +87,21 @@ fn sound_at(t: &[u8], c: u8) -> bool
     sound_record(&t[start..end])
 }
 
-// Whether all sixteen records are sound.
-fn sound_records(t: &[u8]) -> bool
+// How many records are sound, from the first on up to one that is not: 16 where all are. The count is handed back, and not a
+// verdict, because the compiler then has nothing to make ready at every test that may fail.
+fn sound_count(t: &[u8]) -> u8
     requires { ⌜ length (now t) ≡ tableSize ⌝ }
-    ensures { λ r. ⌜ r ≡ every soundRecord (records (now (t .entry))) ⌝ }
+    ensures { λ r. ⌜ eqb r 16 ≡ every soundRecord (records (now (t .entry))) ⌝ }
 {
-    let mut sound = true;
     let mut judged: u8 = 0;
     while judged < 16 {
-        sound = sound & sound_at(t, judged);
-        judged += 1;
+        if sound_at(t, judged) {
+            judged += 1;
+        } else {
+            return judged;
+        }
     }
-    sound
+    judged
 }
 
 // Whether bytes are a sound table: bytes of any number and any value are judged.
@@ -81,7 +109,11 @@ pub fn sound_table(t: &[u8]) -> bool
     ensures { λ r. ⌜ r ≡ soundTable (now (t .entry)) ⌝ }
 {
     if t.len() == 1088 {
-        sound_head(t) & sound_records(t)
+        if sound_head(t) {
+            sound_count(t) == 16
+        } else {
+            false
+        }
     } else {
         false
     }

@@ -1,19 +1,19 @@
 -- Numbers in digits: what reading and writing them a byte at a time comes to, how long they are, and that a number that is
 -- written is read back. Assumes nothing.
 use Prim.Native.Char.{code}
-use mathlib.Core.Path.{_≡_, refl}
+use mathlib.Core.Path.{_≡_, refl, ap, _∙_}
 use mathlib.Core.List.{List, [], _∷_, _++_}
 use mathlib.Core.Bool.{Bool, true, false, _&&_, cond}
 use Prim.Native.Nat.{ℕ, zero, suc, _+_, _*_, _-_, _/_, _%_, _^_, _<_, _≤_, max}
 use native.Mathlib.Nat.{pow-zero, pow-suc, pow-succ', div-one, div-div-eq-div-mul, div-add-mod, div-lt-iff-lt-mul}
-use native.Mathlib.Nat.{add-zero, zero-add, suc-add, pow-le-pow-right, le-max-right, mul-assoc, mul-le-mul-right, lt-of-lt-of-le}
+use native.Mathlib.Nat.{add-zero, add-suc, zero-add, suc-add, pow-le-pow-right, le-max-right, mul-assoc, mul-le-mul-right, lt-of-lt-of-le}
 use native.Mathlib.Numerals.{add-one, one-add}
 use native.Mathlib.Omega.{arith}
-use lib.Dec.{leb}
-use lib.ListN.{length, take, drop, getD, set, length-append, drop-of-length-le}
-use lib.Seq.{drop-cons, take-at}
-use borrow.Author.Tests.{leb-true, leb-false, le-leb}
-use Rattle.digits.specs.Bytes.{part, put}
+use lib.Dec.{leb, ltb}
+use lib.ListN.{length, take, drop, getD, set, length-append, length-drop, drop-of-length-le}
+use lib.Seq.{drop-cons, getD-drop, take-suc, take-at}
+use borrow.Author.Tests.{leb-true, leb-false, le-leb, lt-leb, lt-ltb}
+use Rattle.digits.specs.Bytes.{put}
 use Rattle.digits.specs.Places.{origin}
 use Rattle.text.specs.declared.decimal.Number.the-variants.{Nothing, Read}
 use Rattle.text.specs.Text.{isDigit, digitValue, digitByte, digitsAtFront, valueFrom, valueOf, numberAtFront}
@@ -44,23 +44,6 @@ digits-within (b ∷ s) = go (isDigit b) (digits-within s)
     go true h = omega arith
     go false h = omega arith
 
--- The first byte of what is left joins the number read so far.
-value-first : (s : List ℕ) (v p m : ℕ) → p < length s
-    → valueFrom v (part s p (suc m)) ≡ valueFrom (10 * v + digitValue (getD s p 0)) (part s (suc p) m)
-unfolding part valueFrom
-value-first s v p m h = rw (drop-cons s p 0 h)
-
-pub value-more : (s : List ℕ) (v at n i : ℕ) → at + n ≤ length s → i < n
-    → valueFrom v (part s (at + i) (n - i)) ≡ valueFrom (10 * v + digitValue (getD s (at + i) 0)) (part s (at + (i + 1)) (n - (i + 1)))
-value-more s v at n i h l =
-    let e : n - i ≡ suc (n - (i + 1)) = omega arith in
-    let f : at + (i + 1) ≡ suc (at + i) = omega arith in
-    rw (e, f) (value-first s v (at + i) (n - (i + 1)) (omega arith))
-
-pub value-end : (s : List ℕ) (v p : ℕ) → valueFrom v (part s p 0) ≡ v
-unfolding part valueFrom
-value-end s v p = refl
-
 -- A test of both ends, as a fact.
 pub between : (l h n : ℕ) → (leb l n && leb n h) ≡ true → (l ≤ n) × (n ≤ h)
 between l h n e = go (leb l n) (leb n h) refl refl e
@@ -69,6 +52,35 @@ between l h n e = go (leb l n) (leb n h) refl refl e
     go true true p q e = (leb-true l n p, leb-true n h q)
     go true false p q e = let z : _≡_ {A = ℕ} 0 1 = cc in absurd (omega arith)
     go false u p q e = let z : _≡_ {A = ℕ} 0 1 = cc in absurd (omega arith)
+
+-- One digit more at the end of a number.
+value-append : (t : List ℕ) (v b : ℕ) → valueFrom v (t ++ (b ∷ [])) ≡ 10 * valueFrom v t + digitValue b
+unfolding valueFrom
+value-append [] v b = refl
+value-append (a ∷ t) v b = value-append t (10 * v + digitValue a) b
+
+value-take : (t : List ℕ) (n : ℕ) → n < length t → valueOf (take (suc n) t) ≡ 10 * valueOf (take n t) + digitValue (getD t n 0)
+value-take t n h = rw (take-suc t n 0 h) (value-append (take n t) 0 (getD t n 0))
+
+-- what the digits from a place up to another are worth, and that they are no more than they are
+abbrev pub Worth : List ℕ → ℕ → ℕ → ℕ → Type 0
+Worth s at i v = (v < 10 ^ (i - at)) × (v ≡ valueOf (take (i - at) (drop at s)))
+
+-- A digit joins the number, as long as there are ten at most.
+pub worth-more : (s : List ℕ) (at i v : ℕ) → at ≤ i → i < length s → isDigit (getD s i 0) ≡ true → i + 1 - at ≤ 10 → Worth s at i v
+    → Worth s at (i + 1) (cond (ltb v 10000000000) (10 * v + digitValue (getD s i 0)) v)
+worth-more s at i v a l d h w =
+    let n = i - at in
+    let e : i + 1 - at ≡ suc n = omega arith in
+    let p : at + n ≡ i = omega arith in
+    let few : v < 10000000000 = omega (arith, w .0, pow-le-pow-right {n = 10} (omega arith) {i = n} {j = 9} (omega arith)) in
+    let b = between (code "0") (code "9") (getD s i 0) d in
+    let q : getD (drop at s) n 0 ≡ getD s i 0 = getD-drop at s n 0 ∙ ap (λ (k : ℕ). getD s k 0) p in
+    let t : n < length (drop at s) = omega (arith, length-drop at s) in
+    rw (e, lt-ltb v 10000000000 few) (
+      rw (pow-suc 10 n) (omega (arith, w .0, b .0, b .1)),
+      rw (value-take (drop at s) n t, q, ← w .1),
+    )
 
 -- What digits write is below the power of ten that has one more digit.
 value-below : (s : List ℕ) (v : ℕ) → valueFrom v (take (digitsAtFront s) s) < (v + 1) * 10 ^ digitsAtFront s
@@ -123,6 +135,14 @@ pub powers-within : (k n : ℕ) → powersUpTo k n ≤ k
 unfolding powersUpTo
 powers-within zero n = omega arith
 powers-within (suc k) n = omega (arith, powers-within k n, one-small (leb (10 ^ suc k) n))
+
+-- Where a power of ten is above the number, no later one counts.
+pub powers-end : (k j n : ℕ) → n < 10 ^ suc k → powersUpTo (k + j) n ≡ powersUpTo k n
+unfolding powersUpTo
+powers-end k zero n h = rw (add-zero k)
+powers-end k (suc j) n h =
+    let above : n < 10 ^ suc (k + j) = omega (arith, pow-le-pow-right {n = 10} (omega arith) {i = suc k} {j = suc (k + j)} (omega arith)) in
+    rw (add-suc k j, lt-leb (10 ^ suc (k + j)) n above, powers-end k j n h) (omega arith)
 
 -- A number has 1 to 10 digits.
 pub digit-count-within : (n : ℕ) → (1 ≤ digitCount n) × (digitCount n ≤ 10)

@@ -3,9 +3,10 @@
 use digits::places::ORIGIN;
 ghost use mathlib.Core.Path.{_≡_};
 ghost use mathlib.Core.Bool.{cond};
-ghost use Prim.Native.Nat.{_+_, _%_, _≤_, min, max};
-ghost use lib.ListN.{length, drop};
-ghost use Rattle.digits.specs.Bytes.{part, put};
+ghost use Prim.Native.Nat.{_+_, _*_, _%_, _≤_, max};
+ghost use lib.Dec.{ltb};
+ghost use lib.ListN.{length, take, drop};
+ghost use Rattle.digits.specs.Bytes.{put};
 ghost use Rattle.text.specs.Text.{isDigit, digitValue, digitByte, digitsAtFront, valueOf, numberAtFront};
 ghost use Rattle.text.specs.Text.{lastDigits, digitCount, decimal, signByte, distance, signedDecimal, Wrote};
 
@@ -13,6 +14,12 @@ ghost use Rattle.text.specs.Text.{lastDigits, digitCount, decimal, signB
 pub enum Number {
     Nothing,
     Read { value: u64, count: usize },
+}
+
+// Digits that were gathered: what they are worth, and how many they are.
+struct Gathered {
+    value: u64,
+    count: usize,
 }
 
 pub fn is_digit(b: u8) -> bool
@@ -49,35 +56,50 @@ pub fn digits_at(s: &[u8], at: usize) -> usize
     i - at
 }
 
-fn up_to_ten(n: usize) -> usize
-    ensures { λ r. ⌜ r ≡ min n 10 ⌝ }
+// One digit more. A number of eleven digits takes no more, so that it fits.
+fn one_more(v: u64, b: u8) -> u64
+    ensures { λ r. ⌜ r ≡ cond (ltb v 10000000000) (10 * v + digitValue b) v ⌝ }
 {
-    if n < 10 { n } else { 10 }
+    if v < 10000000000 {
+        10 * v + digit_value(b)
+    } else {
+        v
+    }
 }
 
-// What the n digits from `at` on are worth. No more than ten are taken, since ten fit.
-fn value_at(s: &[u8], at: usize, n: usize) -> u64
-    requires { ⌜ at + n ≤ length (now s) ⌝ }
-    ensures { λ r. ⌜ r ≡ valueOf (part (now (s .entry)) at (min n 10)) ⌝ }
+// The digits from `at` on: how many they are, and what they are worth where they are ten at most.
+fn gather_digits(s: &[u8], at: usize) -> Gathered
+    ensures { λ r. ⌜ (r .count ≡ digitsAtFront (drop at (now (s .entry)))) × (r .count ≤ 10 → r .value ≡ valueOf (take (r .count) (drop at (now (s .entry))))) ⌝ }
 {
-    let k = up_to_ten(n);
     let mut v: u64 = 0;
-    let mut i: usize = 0;
-    while i < k {
-        v = 10 * v + digit_value(s[at + i]);
-        i += 1;
+    let mut i = at;
+    while i < s.len() {
+        let b = s[i];
+        if is_digit(b) {
+            v = one_more(v, b);
+            i += 1;
+        } else {
+            return Gathered {
+                value: v,
+                count: i - at,
+            };
+        }
     }
-    v
+    Gathered {
+        value: v,
+        count: i - at,
+    }
 }
 
 // The number that stands from `at` on: all its digits are taken, and eleven are no number.
 pub fn number_at(s: &[u8], at: usize) -> Number
     ensures { λ r. ⌜ r ≡ numberAtFront (drop at (now (s .entry))) ⌝ }
 {
-    let n = digits_at(s, at);
+    let all = gather_digits(s, at);
+    let n = all.count;
     if (1 <= n) & (n <= 10) {
         Number::Read {
-            value: value_at(s, at, n),
+            value: all.value,
             count: n,
         }
     } else {
@@ -85,25 +107,21 @@ pub fn number_at(s: &[u8], at: usize) -> Number
     }
 }
 
-fn one_if(t: bool) -> usize
-    ensures { λ r. ⌜ (r ≡ cond t 1 0) × (r ≤ 1) ⌝ }
-{
-    if t { 1 } else { 0 }
-}
-
-// One digit, and one more for each of 10, 100, .. that is not above n.
+// The first of 10, 100, .. that is above n says how many digits n has.
 pub fn digit_count(n: u32) -> usize
     ensures { λ r. ⌜ r ≡ digitCount n ⌝ }
 {
-    let mut count: usize = 1;
+    let wide = n as u64;
     let mut power: u64 = 10;
     let mut k: usize = 0;
     while k < 9 {
-        count += one_if(power <= n as u64);
+        if wide < power {
+            return k + 1;
+        }
         power = 10 * power;
         k += 1;
     }
-    count
+    10
 }
 
 // The last digit is known first, so the digits are written from the back.

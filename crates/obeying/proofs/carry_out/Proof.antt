@@ -1,12 +1,11 @@
 -- `obeying::carry_out` meets its contract. Assumes nothing.
-use Rattle.table.proofs.KeptLaws.{sound-head-of, head-parts}
 use Rattle.table.proofs.TableLaws.{sound-length}
 use borrow.Author.Needs.{needs}
 use Rattle.obeying.proofs.carry_out.Statement.{statement}
 use Rattle.obeying.proofs.carry_out.Tie as tie
 
 change-requires : tie.Need-change-requires
-change-requires c κs = let s = c .before .before .before .pre .0 in (sound-length _ s, c .before .before .before .pre .2, c .before .before .before .pre .3, head-parts _ (sound-head-of _ s) .errors)
+change-requires c κs = let a = c .before .before .before in (a .pre .0, a .pre .2, a .pre .3)
 
 all-reply-of-requires : tie.Need-all-reply-of-requires
 all-reply-of-requires c κs = search (needs, sound-length _ (c .before .before .before .before .before .before .before .before .pre .0))

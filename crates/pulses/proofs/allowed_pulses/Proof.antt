@@ -17,7 +17,7 @@ choose-requires c κs = search needs
 
 returns : tie.Need-returns
 returns c =
-    rw (c .choose .ensures, c .before .smaller .ensures, c .before .before .distance-left .ensures, c .before .before .before .before .room-of .ensures)
+    rw (c .choose .ensures, c .before .smaller .ensures, c .before .before .before .distance-left .ensures, c .before .before .before .before .room-of .ensures, c .before .before .before .before .before .pre)
 
 pub allowed-pulses-spec : {M : Type 1} → statement M
 allowed-pulses-spec =

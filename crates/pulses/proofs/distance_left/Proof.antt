@@ -9,7 +9,7 @@ pulses-ahead-requires c κs = search needs
 
 returns : tie.Need-returns
 unfolding distanceLeft
-returns c = rw (c .pulses-ahead .ensures)
+returns c = rw (c .pulses-ahead .ensures, c .before .pre)
 
 pub distance-left-spec : {M : Type 1} → statement M
 distance-left-spec = tie.close (tie.spec pulses-ahead-requires returns)

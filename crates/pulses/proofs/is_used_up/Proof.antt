@@ -4,15 +4,12 @@ use borrow.Author.Needs.{needs}
 use Rattle.pulses.proofs.is_used_up.Statement.{statement}
 use Rattle.pulses.proofs.is_used_up.Tie as tie
 
-given-pulses-requires : tie.Need-given-pulses-requires
-given-pulses-requires c κs = search needs
-
 room-of-requires : tie.Need-room-of-requires
 room-of-requires c κs = search needs
 
 returns : tie.Need-returns
 unfolding usedUp
-returns c = rw (c .room-of .ensures, c .before .given-pulses .ensures)
+returns c = rw (c .room-of .ensures, c .before .pre .0, c .before .pre .1)
 
 pub is-used-up-spec : {M : Type 1} → statement M
-is-used-up-spec = tie.close (tie.spec given-pulses-requires room-of-requires returns)
+is-used-up-spec = tie.close (tie.spec room-of-requires returns)

@@ -8,17 +8,21 @@ use Rattle.table.proofs.sound_table.Tie as tie
 sound-head-requires : tie.Need-sound-head-requires
 sound-head-requires c κs = search needs
 
-sound-records-requires : tie.Need-sound-records-requires
-sound-records-requires c κs = search needs
+sound-count-requires : tie.Need-sound-count-requires
+sound-count-requires c κs = search needs
 
 returns : tie.Need-returns
 unfolding soundTable
-returns c = rw (c .sound-records .ensures, c .before .sound-head .ensures, eq-eqb _ _ (c .before .before .if1 .taken))
+returns c = rw (c .sound-count .ensures, ← c .before .before .sound-head .ensures, c .before .if2 .taken, eq-eqb _ _ (c .before .before .before .if1 .taken))
 
 returns-2 : tie.Need-returns-2
 unfolding soundTable
-returns-2 c = simp (ne-eqb _ _ (c .if1 .left))
+returns-2 c = rw (← c .before .sound-head .ensures, c .if2 .left, eq-eqb _ _ (c .before .before .if1 .taken))
+
+returns-3 : tie.Need-returns-3
+unfolding soundTable
+returns-3 c = simp (ne-eqb _ _ (c .if1 .left))
 
 pub sound-table-spec : {M : Type 1} → statement M
 sound-table-spec =
-    tie.close (tie.spec sound-head-requires sound-records-requires returns returns-2)
+    tie.close (tie.spec sound-head-requires sound-count-requires returns returns-2 returns-3)

@@ -4,7 +4,6 @@ use Rattle.urqolina.proofs.CallLaws.{sizes-pulses}
 use Rattle.urqolina.proofs.Refusals.{tick-size, tick-unsound}
 use Rattle.drive.specs.Numbers.{numberOf}
 use Rattle.urqolina.specs.Calls.{tickCall}
-use Rattle.table.proofs.TableLaws.{sound-length}
 use borrow.Author.Needs.{needs}
 use Rattle.urqolina.proofs.urqolina_tick.Statement.{statement}
 use Rattle.urqolina.proofs.urqolina_tick.Tie as tie
@@ -13,7 +12,7 @@ sound-table-requires : tie.Need-sound-table-requires
 sound-table-requires c κs = search needs
 
 tick-all-requires : tie.Need-tick-all-requires
-tick-all-requires c κs = (sound-length _ (sym (c .before .before .before .sound-table .ensures) ∙ c .before .before .if2 .taken), sizes-pulses (c .before .before .before .before .before .before .before .before .args .table .now) (c .before .before .before .before .before .before .before .before .args .pulses .now) (c .before .before .before .before .before .if1 .taken))
+tick-all-requires c κs = (sym (c .before .before .before .sound-table .ensures) ∙ c .before .before .if2 .taken, sizes-pulses (c .before .before .before .before .before .before .before .before .args .table .now) (c .before .before .before .before .before .before .before .before .args .pulses .now) (c .before .before .before .before .before .if1 .taken))
 
 same-length : tie.Need-same-length
 same-length c = search needs

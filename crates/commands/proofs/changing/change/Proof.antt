@@ -4,6 +4,7 @@ use Rattle.commands.proofs.ChannelLaws.{named, named-channel}
 use Rattle.orders.specs.Values.{valueInRange}
 use Rattle.commands.specs.Changing.{changed}
 use borrow.Author.Needs.{needs}
+use Rattle.table.proofs.TableLaws.{sound-length, sound-record-at}
 use Rattle.commands.proofs.changing.change.Statement.{statement}
 use Rattle.commands.proofs.changing.change.Tie as tie
 
@@ -12,14 +13,17 @@ enum-known-o c = search needs
 
 make-start-requires : tie.Need-make-start-requires
 unfolding named valueInRange
-make-start-requires c κs = (c .before .before .before .before .before .pre .0, rw (c .before .before .o .given .1) at (named-channel _ (c .before .before .before .before .before .pre .1)), rw (c .before .before .o .given .1) at (c .before .before .before .before .before .pre .2))
+make-start-requires c κs = (sound-length _ (c .before .before .before .before .before .pre .0), rw (c .before .before .o .given .1) at (named-channel _ (c .before .before .before .before .before .pre .1)), rw (c .before .before .o .given .1) at (c .before .before .before .before .before .pre .2))
 
 enum-known-o-2 : tie.Need-enum-known-o-2
 enum-known-o-2 c = search needs
 
 make-stop-requires : tie.Need-make-stop-requires
 unfolding named
-make-stop-requires c κs = (c .before .before .before .before .before .pre .0, rw (c .before .before .o2 .given .1) at (named-channel _ (c .before .before .before .before .before .pre .1)))
+make-stop-requires c κs =
+    let a = c .before .before .before .before .before in
+    let channel = rw (c .before .before .o2 .given .1) at (named-channel _ (a .pre .1)) in
+    (sound-length _ (a .pre .0), channel, sound-record-at _ _ (a .pre .0) channel)
 
 enum-known-o-3 : tie.Need-enum-known-o-3
 enum-known-o-3 c = search needs
@@ -32,14 +36,14 @@ enum-known-o-4 c = search needs
 
 make-speed-requires : tie.Need-make-speed-requires
 unfolding named valueInRange
-make-speed-requires c κs = (c .before .before .before .before .before .pre .0, rw (c .before .before .o4 .given .1) at (named-channel _ (c .before .before .before .before .before .pre .1)), rw (c .before .before .o4 .given .1) at (c .before .before .before .before .before .pre .2))
+make-speed-requires c κs = (sound-length _ (c .before .before .before .before .before .pre .0), rw (c .before .before .o4 .given .1) at (named-channel _ (c .before .before .before .before .before .pre .1)), rw (c .before .before .o4 .given .1) at (c .before .before .before .before .before .pre .2))
 
 enum-known-o-5 : tie.Need-enum-known-o-5
 enum-known-o-5 c = search needs
 
 make-setting-requires : tie.Need-make-setting-requires
 unfolding named valueInRange
-make-setting-requires c κs = (c .before .before .before .before .before .pre .0, rw (c .before .before .o5 .given .1) at (named-channel _ (c .before .before .before .before .before .pre .1)), rw (c .before .before .o5 .given .1) at (c .before .before .before .before .before .pre .2))
+make-setting-requires c κs = (sound-length _ (c .before .before .before .before .before .pre .0), rw (c .before .before .o5 .given .1) at (named-channel _ (c .before .before .before .before .before .pre .1)), rw (c .before .before .o5 .given .1) at (c .before .before .before .before .before .pre .2))
 
 enum-told : tie.Need-enum-told
 enum-told c = search needs
@@ -48,13 +52,13 @@ enum-known-o-6 : tie.Need-enum-known-o-6
 enum-known-o-6 c = search needs
 
 set-mode-requires : tie.Need-set-mode-requires
-set-mode-requires c κs = search needs
+set-mode-requires c κs = sound-length _ (c .before .before .before .before .before .pre .0)
 
 enum-known-o-7 : tie.Need-enum-known-o-7
 enum-known-o-7 c = search needs
 
 set-all-reply-requires : tie.Need-set-all-reply-requires
-set-all-reply-requires c κs = search needs
+set-all-reply-requires c κs = sound-length _ (c .before .before .before .before .before .pre .0)
 
 enum-told-2 : tie.Need-enum-told-2
 enum-told-2 c = search needs
@@ -63,14 +67,14 @@ enum-told-3 : tie.Need-enum-told-3
 enum-told-3 c = search needs
 
 set-errors-requires : tie.Need-set-errors-requires
-set-errors-requires c κs = search needs
+set-errors-requires c κs = sound-length _ (c .before .before .before .before .pre .0)
 
 enum-known-o-8 : tie.Need-enum-known-o-8
 enum-known-o-8 c = search needs
 
 clear-flag-requires : tie.Need-clear-flag-requires
 unfolding valueInRange
-clear-flag-requires c κs = (c .before .before .before .before .before .pre .0, leb-true _ 3 (rw (c .before .before .o8 .given .1) at (c .before .before .before .before .before .pre .2)))
+clear-flag-requires c κs = (sound-length _ (c .before .before .before .before .before .pre .0), leb-true _ 3 (rw (c .before .before .o8 .given .1) at (c .before .before .before .before .before .pre .2)))
 
 same-length : tie.Need-same-length
 same-length c = search needs

@@ -4,9 +4,11 @@ use native.Mathlib.Omega.{arith}
 use mathlib.Core.Path.{_≡_, sym}
 use Prim.Native.Nat.{_-_, _≤_}
 use lib.ListN.{length}
-use Rattle.table.specs.Layout.{tableSize}
+use mathlib.Core.Bool.{true}
+use Rattle.motor.specs.Sound.{soundRecord}
+use Rattle.table.specs.Layout.{tableSize, recordAt}
 use Rattle.drive.specs.Drives.{stopped}
-use Rattle.table.proofs.TableLaws.{upTo, up-to-none, up-to-next, up-to-all}
+use Rattle.table.proofs.TableLaws.{upTo, up-to-none, up-to-record, up-to-next, up-to-all, sound-length, sound-record-at}
 use Rattle.commands.proofs.changing.stop_all.Statement.{statement}
 use Rattle.commands.proofs.changing.stop_all.Tie as tie
 
@@ -17,10 +19,18 @@ abbrev μ-loop : tie.MeasureT-loop
 μ-loop t₀ flags x₀ t x = 16 - x
 
 loop-holds : tie.Need-loop-holds Inv-loop μ-loop
-loop-holds c = (search needs, search needs, sym (up-to-none _ (c .before .args .t .now)))
+loop-holds c = (search needs, sound-length _ (c .before .pre), sym (up-to-none _ (c .before .args .t .now)))
 
 make-stop-requires : tie.Need-make-stop-requires Inv-loop μ-loop
-make-stop-requires c κs = (c .before .before .loop .inv .1, omega arith)
+make-stop-requires c κs =
+    let l = c .before .before in
+    let a = l .before .before in
+    let t₀ = a .args .t .now in
+    let x = l .loop .x in
+    let channel : x ≤ 15 = omega arith in
+    let sound : soundRecord (recordAt (l .loop .t) x) ≡ true =
+    rw (l .loop .inv .2, up-to-record (stopped (a .args .flags)) x t₀ (sound-length t₀ (a .pre))) (sound-record-at t₀ x (a .pre) channel) in
+    (l .loop .inv .1, channel, sound)
 
 add-x : tie.Need-add-x Inv-loop μ-loop
 add-x c = omega arith
@@ -33,14 +43,14 @@ loop-again c =
     let l = c .before .before .before .before .before in
     let t₀ = l .before .before .args .t .now in
     let f = stopped (l .before .before .args .flags) in
-    let whole = l .before .before .pre in
+    let whole = sound-length t₀ (l .before .before .pre) in
     (omega arith, search needs, rw (c .before .before .make-stop .ensures, l .loop .inv .2) (up-to-next f (l .loop .x) t₀ whole))
 
 same-length : tie.Need-same-length Inv-loop μ-loop
-same-length c = search needs
+same-length c = let e = sound-length _ (c .before .before .before .pre) in search needs
 
 returns : tie.Need-returns Inv-loop μ-loop
-returns c = let e : c .before .loop .x ≡ 16 = omega arith in rw (c .before .loop .inv .2, e) (up-to-all _ _ (c .before .before .before .pre))
+returns c = let e : c .before .loop .x ≡ 16 = omega arith in rw (c .before .loop .inv .2, e) (up-to-all _ _ (sound-length _ (c .before .before .before .pre)))
 
 pub stop-all-spec : {M : Type 1} → statement M
 stop-all-spec =

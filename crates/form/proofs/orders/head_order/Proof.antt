@@ -1,8 +1,6 @@
 -- `form::orders::head_order` meets its contract. Assumes nothing.
-use mathlib.Core.Path.{refl}
-use Rattle.line.specs.Forms.{headRows}
 use Rattle.form.specs.Computing.{computing-form}
-use Rattle.form.proofs.TableLaws.{keys, flat, rest-none, none-with}
+use Rattle.form.proofs.TableLaws.{no-rows, rest-above}
 use Rattle.form.proofs.orders.head_order.Statement.{statement}
 use Rattle.form.proofs.orders.head_order.Tie as tie
 
@@ -36,11 +34,28 @@ returns-7 c = rw (c .match .keys7)
 
 returns-8 : tie.Need-returns-8
 unfolding computing-form
-returns-8 c =
-    let n = c .before .args .word in
-    rw (none-with (flat (keys headRows)) headRows n refl (rest-none (keys headRows) n (c .match .rest)))
+returns-8 c = rw (c .match .keys8)
+
+returns-9 : tie.Need-returns-9
+unfolding computing-form
+returns-9 c = rw (c .match .keys9)
+
+returns-10 : tie.Need-returns-10
+returns-10 c =
+    let l = c .before .before in
+    rw (no-rows (l .args .row) (rest-above 32 9 (l .args .row) (l .pre) (c .match .rest)))
 
 pub head-order-spec : {M : Type 1} → statement M
 head-order-spec =
     tie.close
-    (tie.spec returns returns-2 returns-3 returns-4 returns-5 returns-6 returns-7 returns-8)
+    (tie.spec
+    returns
+    returns-2
+    returns-3
+    returns-4
+    returns-5
+    returns-6
+    returns-7
+    returns-8
+    returns-9
+    returns-10)

@@ -1,10 +1,11 @@
 -- `form::orders::question_order` meets its contract. Assumes nothing.
-use mathlib.Core.Path.{refl}
-use Rattle.line.specs.Forms.{questionRows}
 use Rattle.form.specs.Computing.{computing-form}
-use Rattle.form.proofs.TableLaws.{keys, flat, rest-none, none-with}
+use Rattle.form.proofs.TableLaws.{rest-above}
 use Rattle.form.proofs.orders.question_order.Statement.{statement}
 use Rattle.form.proofs.orders.question_order.Tie as tie
+
+head-order-requires : tie.Need-head-order-requires
+head-order-requires c κs = rest-above 22 10 (c .before .args .row) (c .before .pre) (c .match .rest)
 
 returns : tie.Need-returns
 unfolding computing-form
@@ -47,15 +48,13 @@ unfolding computing-form
 returns-10 c = rw (c .match .keys10)
 
 returns-11 : tie.Need-returns-11
-unfolding computing-form
-returns-11 c =
-    let n = c .before .args .word in
-    rw (none-with (flat (keys questionRows)) questionRows n refl (rest-none (keys questionRows) n (c .match .rest)))
+returns-11 c = c .head-order .ensures
 
 pub question-order-spec : {M : Type 1} → statement M
 question-order-spec =
     tie.close
     (tie.spec
+    head-order-requires
     returns
     returns-2
     returns-3

@@ -1,10 +1,11 @@
 -- `form::orders::setting_order` meets its contract. Assumes nothing.
-use mathlib.Core.Path.{refl}
-use Rattle.line.specs.Forms.{settingRows}
 use Rattle.form.specs.Computing.{computing-form}
-use Rattle.form.proofs.TableLaws.{keys, flat, rest-none, none-with}
+use Rattle.form.proofs.TableLaws.{rest-above}
 use Rattle.form.proofs.orders.setting_order.Statement.{statement}
 use Rattle.form.proofs.orders.setting_order.Tie as tie
+
+question-order-requires : tie.Need-question-order-requires
+question-order-requires c κs = rest-above 11 11 (c .before .before .before .before .args .row) (c .before .before .before .before .pre) (c .match .rest)
 
 returns : tie.Need-returns
 unfolding computing-form
@@ -40,14 +41,24 @@ returns-8 c = rw (c .match .keys8)
 
 returns-9 : tie.Need-returns-9
 unfolding computing-form
-returns-9 c =
-    let n = c .before .before .before .before .args .word in
-    rw (none-with (flat (keys settingRows)) settingRows n refl (rest-none (keys settingRows) n (c .match .rest)))
+returns-9 c = rw (c .match .keys9)
+
+returns-10 : tie.Need-returns-10
+unfolding computing-form
+returns-10 c = rw (c .match .keys10)
+
+returns-11 : tie.Need-returns-11
+unfolding computing-form
+returns-11 c = rw (c .match .keys11)
+
+returns-12 : tie.Need-returns-12
+returns-12 c = c .question-order .ensures
 
 pub setting-order-spec : {M : Type 1} → statement M
 setting-order-spec =
     tie.close
     (tie.spec
+    question-order-requires
     returns
     returns-2
     returns-3
@@ -56,4 +67,7 @@ setting-order-spec =
     returns-6
     returns-7
     returns-8
-    returns-9)
+    returns-9
+    returns-10
+    returns-11
+    returns-12)

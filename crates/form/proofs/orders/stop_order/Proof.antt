@@ -1,10 +1,11 @@
 -- `form::orders::stop_order` meets its contract. Assumes nothing.
-use mathlib.Core.Path.{refl}
-use Rattle.line.specs.Forms.{stopRows}
 use Rattle.form.specs.Computing.{computing-form}
-use Rattle.form.proofs.TableLaws.{keys, flat, rest-none, none-with}
+use borrow.Author.Needs.{needs}
 use Rattle.form.proofs.orders.stop_order.Statement.{statement}
 use Rattle.form.proofs.orders.stop_order.Tie as tie
+
+setting-order-requires : tie.Need-setting-order-requires
+setting-order-requires c κs = search needs
 
 returns : tie.Need-returns
 unfolding computing-form
@@ -27,10 +28,9 @@ unfolding computing-form
 returns-5 c = rw (c .match .keys5)
 
 returns-6 : tie.Need-returns-6
-unfolding computing-form
-returns-6 c =
-    let n = c .before .before .args .word in
-    rw (none-with (flat (keys stopRows)) stopRows n refl (rest-none (keys stopRows) n (c .match .rest)))
+returns-6 c = c .setting-order .ensures
 
 pub stop-order-spec : {M : Type 1} → statement M
-stop-order-spec = tie.close (tie.spec returns returns-2 returns-3 returns-4 returns-5 returns-6)
+stop-order-spec =
+    tie.close
+    (tie.spec setting-order-requires returns returns-2 returns-3 returns-4 returns-5 returns-6)

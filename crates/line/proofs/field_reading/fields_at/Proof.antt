@@ -1,61 +1,84 @@
--- `line::field_reading::fields_at` meets its contract. The invariant: the first n fields are read. Assumes nothing.
+-- `line::field_reading::fields_at` meets its contract. Assumes nothing.
+use Rattle.line.specs.Shapes.{readFields}
+use Rattle.line.proofs.ReadLaws.{last-field}
 use borrow.Author.Needs.{needs}
-use native.Mathlib.Omega.{arith}
-use native.Mathlib.Numerals.{add-one}
-use mathlib.Core.Path.{_≡_}
-use Prim.Native.Nat.{_-_, _≤_}
-use Rattle.line.specs.Shapes.{readFirst}
 use Rattle.line.proofs.field_reading.fields_at.Statement.{statement}
 use Rattle.line.proofs.field_reading.fields_at.Tie as tie
 
-abbrev Inv-loop : tie.InvT-loop
-Inv-loop s at shape got₀ n₀ got n = (n ≤ 3) × (got ≡ readFirst n shape s at)
-
-abbrev μ-loop : tie.MeasureT-loop
-μ-loop s at shape got₀ n₀ got n = 3 - n
-
-no-fields-requires : tie.Need-no-fields-requires Inv-loop μ-loop
+no-fields-requires : tie.Need-no-fields-requires
 no-fields-requires c κs = search needs
 
-loop-holds : tie.Need-loop-holds Inv-loop μ-loop
-unfolding readFirst
-loop-holds c = (omega arith, rw (c .no-fields .ensures))
+enum-told : tie.Need-enum-told
+enum-told c = search needs
 
-kind-at-requires : tie.Need-kind-at-requires Inv-loop μ-loop
-kind-at-requires c κs = search needs
+enum-known-tail : tie.Need-enum-known-tail
+enum-known-tail c = search needs
 
-onward-at-requires : tie.Need-onward-at-requires Inv-loop μ-loop
-onward-at-requires c κs = search needs
+x-at-requires : tie.Need-x-at-requires
+x-at-requires c κs = search needs
 
-add-n : tie.Need-add-n Inv-loop μ-loop
-add-n c = omega arith
+enum-told-2 : tie.Need-enum-told-2
+enum-told-2 c = search needs
 
-loop-less : tie.Need-loop-less Inv-loop μ-loop
-loop-less c = omega arith
+digit-at-requires : tie.Need-digit-at-requires
+digit-at-requires c κs = search needs
 
-loop-again : tie.Need-loop-again Inv-loop μ-loop
-unfolding readFirst
-loop-again c =
-    let l = c .before .before .before .loop in
-    (omega arith, rw (add-one (l .n), c .onward-at .ensures, c .before .kind-at .ensures, l .inv .1))
+enum-told-3 : tie.Need-enum-told-3
+enum-told-3 c = search needs
 
-returns : tie.Need-returns Inv-loop μ-loop
-returns c =
-    let l = c .before .loop in
-    let e : l .n ≡ 3 = omega arith in
-    rw (l .inv .1, e)
+letters-at-requires : tie.Need-letters-at-requires
+letters-at-requires c κs = search needs
+
+enum-told-4 : tie.Need-enum-told-4
+enum-told-4 c = search needs
+
+letters-at-requires-2 : tie.Need-letters-at-requires-2
+letters-at-requires-2 c κs = search needs
+
+enum-told-5 : tie.Need-enum-told-5
+enum-told-5 c = search needs
+
+returns : tie.Need-returns
+unfolding readFields
+returns c = rw (c .enum-told .given .1, c .before .before .no-fields .ensures)
+
+returns-2 : tie.Need-returns-2
+returns-2 c = rw (c .before .before .tail .given .1, c .x-at .ensures, c .before .before .before .before .no-fields .ensures)
+
+returns-3 : tie.Need-returns-3
+unfolding readFields
+returns-3 c = rw (c .before .enum-told2 .given .1, c .digit-at .ensures, c .before .before .before .no-fields .ensures) (last-field _)
+
+returns-4 : tie.Need-returns-4
+unfolding readFields
+returns-4 c = rw (c .before .enum-told3 .given .1, c .letters-at .ensures, c .before .before .before .no-fields .ensures) (last-field _)
+
+returns-5 : tie.Need-returns-5
+unfolding readFields
+returns-5 c = rw (c .before .enum-told4 .given .1, c .letters-at2 .ensures, c .before .before .before .no-fields .ensures) (last-field _)
+
+returns-6 : tie.Need-returns-6
+unfolding readFields
+returns-6 c = rw (c .enum-told5 .given .1)
 
 pub fields-at-spec : {M : Type 1} → statement M
 fields-at-spec =
     tie.close
     (tie.spec
-    Inv-loop
-    μ-loop
     no-fields-requires
-    loop-holds
-    kind-at-requires
-    onward-at-requires
-    add-n
-    loop-less
-    loop-again
-    returns)
+    enum-told
+    enum-known-tail
+    x-at-requires
+    enum-told-2
+    digit-at-requires
+    enum-told-3
+    letters-at-requires
+    enum-told-4
+    letters-at-requires-2
+    enum-told-5
+    returns
+    returns-2
+    returns-3
+    returns-4
+    returns-5
+    returns-6)

@@ -1,67 +1,52 @@
--- `reader::finding::word_at` meets its contract. The invariant: the letters so far are known
--- by their number, and the word so far is the longest of them. Assumes nothing.
+-- `reader::finding::word_at` meets its contract. The invariant: the letters that are left are known by their number, and the
+-- longest word is among them. Assumes nothing.
 use denote.Ref.{now}
 use borrow.Author.Needs.{needs}
 use native.Mathlib.Omega.{arith}
-use native.Mathlib.Nat.{pow-suc, pow-le-pow-right}
-use native.Mathlib.Numerals.{add-one}
-use mathlib.Core.Path.{_≡_, refl, ap}
-use Prim.Native.Nat.{suc, _+_, _-_, _*_, _^_, _<_, _≤_}
-use lib.ListN.{getD, take, drop, length-drop}
-use lib.Seq.{getD-drop}
-use Rattle.digits.specs.Bytes.{AllBytes}
-use Rattle.digits.specs.Words.{word}
-use Rattle.form.specs.Table.{packed}
-use Rattle.reader.specs.Finding.{longest, marked, letterCount, wordAt}
-use Rattle.reader.proofs.LetterLaws.{count-enough, packed-more, marked-none, longer-word}
+use mathlib.Core.Path.{_≡_, sym, ap, _∙_}
+use mathlib.Core.Bool.{true, false}
+use Prim.Native.Nat.{_-_, _≤_}
+use lib.ListN.{length, take, drop}
+use Rattle.line.specs.Forms.{forms}
+use Rattle.form.specs.Table.{packed, rowsWith}
+use Rattle.reader.specs.Finding.{someRow, longest, marked, letterCount, wordAt}
+use Rattle.reader.proofs.LetterLaws.{count-enough, packed-fewer, marked-none, word-here, word-shorter}
 use Rattle.reader.proofs.finding.word_at.Statement.{statement}
 use Rattle.reader.proofs.finding.word_at.Tie as tie
 
 abbrev Inv-loop : tie.InvT-loop
-Inv-loop s at count word₀ letters₀ n₀ word letters n =
-    (n ≤ count) × (letters < 256 ^ n) × (letters ≡ packed (take n (drop at s))) × (word ≡ marked at (longest n (drop at s)))
+Inv-loop s at letters₀ n₀ letters n =
+    (n ≤ letterCount (drop at s)) × (n ≤ length s - at) × (letters ≡ packed (take n (drop at s))) × (longest n (drop at s) ≡ longest 8 (drop at s))
 
 abbrev μ-loop : tie.MeasureT-loop
-μ-loop s at count word₀ letters₀ n₀ word letters n = count - n
+μ-loop s at letters₀ n₀ letters n = n
 
-letter-count-requires : tie.Need-letter-count-requires Inv-loop μ-loop
-letter-count-requires c κs = search needs
+letters-at-requires : tie.Need-letters-at-requires Inv-loop μ-loop
+letters-at-requires c κs = search needs
 
 loop-holds : tie.Need-loop-holds Inv-loop μ-loop
-unfolding packed word longest
-loop-holds c = (omega arith, omega arith, refl, marked-none (c .before .before .args .at))
+loop-holds c =
+    let a = c .before .before .args in
+    let l = c .letters-at .ensures in
+    (omega arith, l .1, l .2, rw (l .0) (count-enough (drop (a .at) (now (a .s)))))
 
-mul-letters : tie.Need-mul-letters Inv-loop μ-loop
-mul-letters c =
-    let l = c .before .loop in
-    omega (arith, pow-le-pow-right {n = 256} (omega arith) {i = l .n} {j = 7} (omega arith))
+is-word-requires : tie.Need-is-word-requires Inv-loop μ-loop
+is-word-requires c κs = search needs
 
-add-letters : tie.Need-add-letters Inv-loop μ-loop
-add-letters c = omega arith
+add-t8 : tie.Need-add-t8 Inv-loop μ-loop
+add-t8 c = omega arith
 
-shared-slice-read-letters : tie.Need-shared-slice-read-letters Inv-loop μ-loop
-shared-slice-read-letters c = omega arith
+returns : tie.Need-returns Inv-loop μ-loop
+unfolding wordAt
+returns c =
+    let l = c .before .before .before .loop in
+    let a = c .before .before .before .before .before .before .args in
+    let t = drop (a .at) (now (a .s)) in
+    let e : someRow (rowsWith (packed (take (l .n) t)) forms) ≡ true = rw (← l .inv .2, ← c .before .is-word .ensures) (c .if1 .taken) in
+    rw (l .inv .2) (word-here t (a .at) (l .n) (omega arith) (l .inv .0) e ∙ ap (marked (a .at)) (l .inv .3))
 
-cast-letters : tie.Need-cast-letters Inv-loop μ-loop
-cast-letters c = record { fits = omega (arith, c .shared-slice-known2 .given (c .before .before .before .before .before .args .at + c .before .before .loop .n)) }
-
-add-letters-2 : tie.Need-add-letters-2 Inv-loop μ-loop
-add-letters-2 c =
-    let l = c .before .before .loop in
-    omega (
-      arith,
-      pow-le-pow-right {n = 256} (omega arith) {i = l .n} {j = 7} (omega arith),
-      c .shared-slice-known2 .given (c .before .before .before .before .before .args .at + l .n),
-    )
-
-add-n : tie.Need-add-n Inv-loop μ-loop
-add-n c = omega arith
-
-add-longer : tie.Need-add-longer Inv-loop μ-loop
-add-longer c = omega arith
-
-longer-requires : tie.Need-longer-requires Inv-loop μ-loop
-longer-requires c κs = search needs
+sub-n : tie.Need-sub-n Inv-loop μ-loop
+sub-n c = omega arith
 
 loop-less : tie.Need-loop-less Inv-loop μ-loop
 loop-less c = omega arith
@@ -71,27 +56,20 @@ loop-again c =
     let l = c .before .before .before .loop in
     let a = c .before .before .before .before .before .before .args in
     let t = drop (a .at) (now (a .s)) in
-    let b = c .before .shared-slice-known2 .given in
-    let byte = getD (now (a .s)) (a .at + l .n) 0 in
-    let all : AllBytes t = λ j. rw (getD-drop (a .at) (now (a .s)) j 0) (b (a .at + j) .fits) in
-    let more : l .n < letterCount t = rw (← c .before .before .before .before .letter-count .ensures .0) (c .before .before .loop-test .taken) in
-    let e : 256 * l .letters + byte ≡ packed (take (suc (l .n)) t) =
-    rw (packed-more t (l .n) (rw (length-drop (a .at) (now (a .s))) (omega arith)), getD-drop (a .at) (now (a .s)) (l .n) 0, l .inv .2) in (
+    let e : someRow (rowsWith (packed (take (l .n) t)) forms) ≡ false = rw (← l .inv .2, ← c .before .is-word .ensures) (c .if1 .left) in (
       omega arith,
-      rw (add-one (l .n), pow-suc 256 (l .n)) (omega (arith, b (a .at + l .n))),
-      rw (add-one (l .n)) e,
-      rw (c .longer .ensures, add-one (l .n))
-          (longer-word t (a .at) (l .n) (256 * l .letters + byte) (l .word) more all e (l .inv .3)),
+      omega arith,
+      rw (l .inv .2) (packed-fewer t (l .n) (omega arith) (l .inv .0)),
+      sym (word-shorter t (l .n) (omega arith) (l .inv .0) e) ∙ l .inv .3,
     )
 
-returns : tie.Need-returns Inv-loop μ-loop
-unfolding wordAt
-returns c =
+returns-2 : tie.Need-returns-2 Inv-loop μ-loop
+unfolding wordAt longest
+returns-2 c =
     let l = c .before .loop in
-    let n = c .before .before .letter-count in
     let a = c .before .before .before .before .args in
-    let e : l .n ≡ n .result = omega arith in
-    rw (l .inv .3, e, n .ensures .0) (ap (marked (a .at)) (count-enough (drop (a .at) (now (a .s)))))
+    let z : l .n ≡ 0 = omega arith in
+    marked-none (a .at) ∙ ap (marked (a .at)) (rw z at (l .inv .3))
 
 pub word-at-spec : {M : Type 1} → statement M
 word-at-spec =
@@ -99,16 +77,12 @@ word-at-spec =
     (tie.spec
     Inv-loop
     μ-loop
-    letter-count-requires
+    letters-at-requires
     loop-holds
-    mul-letters
-    add-letters
-    shared-slice-read-letters
-    cast-letters
-    add-letters-2
-    add-n
-    add-longer
-    longer-requires
+    is-word-requires
+    add-t8
+    returns
+    sub-n
     loop-less
     loop-again
-    returns)
+    returns-2)

@@ -1,30 +1,34 @@
--- `table::head::head_zero` meets its contract: after each turn the verdict is that on the bytes from 3 on that were read so
--- far. Assumes nothing.
+-- `table::head::head_zero` meets its contract: every turn finds eight bytes more to be zero, from 8 on, or ends with eight that
+-- are not. Assumes nothing.
 use mathlib.Core.Path.{_≡_, sym}
+use mathlib.Core.Bool.{true}
 use Prim.Native.Nat.{_-_, _≤_}
 use native.Mathlib.Omega.{arith}
+use lib.Dec.{eqb}
 use borrow.Author.Needs.{needs}
-use Rattle.table.proofs.LoopLaws.{zeroTo, zero-first, zero-next}
+use borrow.Author.Tests.{eq-eqb, ne-eqb}
+use Rattle.digits.specs.Words.{word}
+use Rattle.digits.specs.Bytes.{part}
+use Rattle.digits.proofs.WordLaws.{zero-part}
+use Rattle.motor.proofs.SoundLaws.{and-true}
+use Rattle.table.proofs.LoopLaws.{zeroTo, zero-first, zero-next, zero-fails}
 use Rattle.table.proofs.head.head_zero.Statement.{statement}
 use Rattle.table.proofs.head.head_zero.Tie as tie
 
 abbrev Inv-loop : tie.InvT-loop
-Inv-loop t zero₀ k₀ zero k = (1 ≤ k) × (k ≤ 16) × (zero ≡ zeroTo t k)
+Inv-loop t k₀ k = (1 ≤ k) × (k ≤ 8) × (zeroTo t k ≡ true)
 
 abbrev μ-loop : tie.MeasureT-loop
-μ-loop t zero₀ k₀ zero k = 16 - k
-
-byte-at-requires : tie.Need-byte-at-requires Inv-loop μ-loop
-byte-at-requires c κs = search needs
+μ-loop t k₀ k = 8 - k
 
 loop-holds : tie.Need-loop-holds Inv-loop μ-loop
-loop-holds c = (search needs, search needs, rw (c .byte-at .ensures) (sym (zero-first (c .before .before .args .t .now))))
+loop-holds c = (search needs, search needs, zero-first (c .before .args .t .now))
 
-mul-long-at : tie.Need-mul-long-at Inv-loop μ-loop
-mul-long-at c = omega arith
+mul-wide-at : tie.Need-mul-wide-at Inv-loop μ-loop
+mul-wide-at c = omega arith
 
-long-at-requires : tie.Need-long-at-requires Inv-loop μ-loop
-long-at-requires c κs = omega arith
+wide-at-requires : tie.Need-wide-at-requires Inv-loop μ-loop
+wide-at-requires c κs = omega arith
 
 add-k : tie.Need-add-k Inv-loop μ-loop
 add-k c = omega arith
@@ -34,12 +38,30 @@ loop-less c = omega arith
 
 loop-again : tie.Need-loop-again Inv-loop μ-loop
 loop-again c =
-    let l = c .before .before in
-    (omega arith, omega arith, rw (zero-next (l .before .before .before .args .t .now) (l .loop .k) (omega arith), l .loop .inv .2, c .long-at .ensures))
+    let l = c .before .before .before in
+    (omega arith, omega arith, rw (zero-next (l .before .before .args .t .now) (l .loop .k) (omega arith), l .loop .inv .2, ← c .before .wide-at .ensures) (eq-eqb _ _ (c .if1 .taken)))
 
 returns : tie.Need-returns Inv-loop μ-loop
+returns c =
+    let l = c .before .before .before in
+    let t = l .before .before .args .t .now in
+    let k = l .loop .k in
+    sym (zero-fails t k (omega arith) (omega arith) (rw (← c .before .wide-at .ensures) (ne-eqb _ _ (c .if1 .left))))
+
+byte-at-requires : tie.Need-byte-at-requires Inv-loop μ-loop
+byte-at-requires c κs = search needs
+
+long-at-requires : tie.Need-long-at-requires Inv-loop μ-loop
+long-at-requires c κs = search needs
+
+returns-2 : tie.Need-returns-2 Inv-loop μ-loop
 unfolding zeroTo
-returns c = let e : c .before .loop .k ≡ 16 = omega arith in rw (c .before .loop .inv .2, e)
+returns-2 c =
+    let l = c .before .before .before in
+    let t = l .before .before .args .t .now in
+    let e : l .loop .k ≡ 8 = omega arith in
+    rw (zero-part t 3 1 60, zero-part t 4 4 56, c .long-at .ensures, c .before .byte-at .ensures, rw (e) at (l .loop .inv .2))
+    (rw (and-true (eqb (word (part t 4 4)) 0)))
 
 pub head-zero-spec : {M : Type 1} → statement M
 head-zero-spec =
@@ -47,11 +69,13 @@ head-zero-spec =
     (tie.spec
     Inv-loop
     μ-loop
-    byte-at-requires
     loop-holds
-    mul-long-at
-    long-at-requires
+    mul-wide-at
+    wide-at-requires
     add-k
     loop-less
     loop-again
-    returns)
+    returns
+    byte-at-requires
+    long-at-requires
+    returns-2)

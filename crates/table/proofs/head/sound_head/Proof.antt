@@ -18,9 +18,17 @@ head-zero-requires c κs = search needs
 
 returns : tie.Need-returns
 unfolding soundHead
-returns c = rw (c .head-zero .ensures, c .before .errors-of .ensures, c .before .before .all-reply-of .ensures, c .before .before .before .mode-of .ensures)
+returns c =
+    let r = c .before .before in
+    rw (c .head-zero .ensures, ← r .errors-of .ensures, ← r .before .all-reply-of .ensures, ← r .before .before .mode-of .ensures, c .before .if1 .taken)
+
+returns-2 : tie.Need-returns-2
+unfolding soundHead
+returns-2 c =
+    let r = c .before in
+    rw (← r .errors-of .ensures, ← r .before .all-reply-of .ensures, ← r .before .before .mode-of .ensures, c .if1 .left)
 
 pub sound-head-spec : {M : Type 1} → statement M
 sound-head-spec =
     tie.close
-    (tie.spec mode-of-requires all-reply-of-requires errors-of-requires head-zero-requires returns)
+    (tie.spec mode-of-requires all-reply-of-requires errors-of-requires head-zero-requires returns returns-2)
