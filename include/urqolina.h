@@ -84,7 +84,8 @@ uint32_t urqolina_tick(uint8_t *table, size_t table_size, uint8_t *pulses, size_
 static inline int32_t urqolina_count(const uint8_t *pulses, uint32_t channel)
 {
     const uint8_t *p = pulses + 4u * channel;
-    return (int32_t)((uint32_t)p[0] | (uint32_t)p[1] << 8 | (uint32_t)p[2] << 16 | (uint32_t)p[3] << 24);
+    uint32_t word = (uint32_t)p[0] | (uint32_t)p[1] << 8 | (uint32_t)p[2] << 16 | (uint32_t)p[3] << 24;
+    return word < 0x80000000u ? (int32_t)word : -(int32_t)(0xffffffffu - word) - 1;
 }
 
 #ifdef __cplusplus

@@ -1,0 +1,468 @@
+/*
+ * differ [N [SEED]]: makes N calls, 200,000 if none is said, of the library and of the model side by side: the same calls on two
+ * copies of every buffer. After each call the results and every byte of every buffer are compared. The run follows from the
+ * seed. The first difference ends it, with status 1.
+ *
+ * What is held against each of the two besides: no byte outside a lent buffer is touched, read or written (bytes of a known
+ * value around it, and pages that can't be touched beside those), a line is never written, 5 and 6 write nothing, and the
+ * bytes past a reply stay.
+ *
+ * Where MODEL_ALONE is defined the model stands on both sides: for the sanitizers, which the library is not built for.
+ */
+#define _DEFAULT_SOURCE
+#include <inttypes.h>
+#include <signal.h>
+#include <stdio.h>
+#include <stdlib.h>
+#include <string.h>
+#include <sys/mman.h>
+#include <unistd.h>
+
+#include "draw.h"
+#include "model.h"
+#include "urqolina.h"
+
+#ifdef MODEL_ALONE
+#define urqolina_fresh model_fresh
+#define urqolina_command model_command
+#define urqolina_reading model_reading
+#define urqolina_tick model_tick
+#endif
+
+enum { LIBRARY, MODEL, SIDES };
+enum { FRESH, COMMAND, READING, TICK, CALLS };
+enum { CANARY = 0xc5, BESIDE = 64, AREA = 8192 };
+
+static const char *const side_names[SIDES] = {"the library", "the model"};
+static const char *const call_names[CALLS] = {"fresh", "command", "reading", "tick"};
+
+/* A buffer that is lent to both sides: in each an area of its own between two pages that can't be touched. */
+struct lent {
+    const char *name;
+    uint8_t *area[SIDES];
+    size_t start;
+    size_t size;
+    size_t said; /* the size that the calls are told: size, but where a size of more than 32 bits is tried */
+    uint8_t before[AREA]; /* what both copies held before the call */
+};
+
+static struct lent table = {.name = "table"}, line = {.name = "line"}, reply = {.name = "reply"}, pulses = {.name = "pulses"};
+
+/* The call in hand. */
+static struct {
+    int kind;
+    uint32_t channel, contacts;
+    uint32_t results[SIDES];
+} call;
+
+static struct draw chance;
+static uint64_t seed = 1, made, wanted = 200000;
+static uint64_t numbers[CALLS][7];
+
+static uint8_t *copy_of(const struct lent *b, int side)
+{
+    return b->area[side] + b->start;
+}
+
+/* Whether a call of this kind is lent this buffer. */
+static bool is_lent(const struct lent *b)
+{
+    return b == &table || (b == &pulses ? call.kind == TICK : call.kind == COMMAND);
+}
+
+static void print_bytes(const char *what, const uint8_t *bytes, size_t size)
+{
+    printf("  %s, %zu bytes:", what, size);
+    for (size_t k = 0; k < size; k++)
+        printf("%s%02x", k % 32 == 0 ? "\n    " : " ", bytes[k]);
+    printf("\n");
+}
+
+/* Says what differs, and all that went into the call, and ends the run. */
+static _Noreturn void differs(const char *what, const char *where)
+{
+    printf("differ: seed %" PRIu64 ", call %" PRIu64 " (%s): %s%s\n", seed, made, call_names[call.kind], what, where);
+    printf("  results: the library %" PRIu32 ", the model %" PRIu32 "\n", call.results[LIBRARY], call.results[MODEL]);
+    if (call.kind == READING)
+        printf("  channel %" PRIu32 ", contacts %" PRIu32 "\n", call.channel, call.contacts);
+    if (call.kind == COMMAND) {
+        print_bytes("the line", line.before, line.size);
+        print_bytes("the reply before", reply.before, reply.size);
+    }
+    if (call.kind == TICK)
+        print_bytes("the pulses before", pulses.before, pulses.size);
+    print_bytes("the table before", table.before, table.size);
+    exit(1);
+}
+
+/* A call touched a page that it was not lent: nothing can be compared any more. */
+static void on_fault(int number)
+{
+    (void)number;
+    static char text[120];
+    int size = snprintf(text, sizeof text, "differ: seed %" PRIu64 ", call %" PRIu64 " (%s): a byte that was not lent was touched\n",
+                        seed, made, call_names[call.kind]);
+    if (size > 0 && write(STDOUT_FILENO, text, (size_t)size) < 0)
+        _exit(2);
+    _exit(1);
+}
+
+static void make_areas(struct lent *b)
+{
+    size_t page = (size_t)sysconf(_SC_PAGESIZE);
+    for (int side = 0; side < SIDES; side++) {
+        uint8_t *all = mmap(NULL, 2 * page + AREA, PROT_NONE, MAP_PRIVATE | MAP_ANONYMOUS, -1, 0);
+        if (all == MAP_FAILED || mprotect(all + page, AREA, PROT_READ | PROT_WRITE) != 0) {
+            perror("differ");
+            exit(2);
+        }
+        b->area[side] = all + page;
+        memset(b->area[side], CANARY, AREA);
+    }
+}
+
+/* Lends a buffer of a size anew: at the end of its area, at the start, or anywhere in it. Both copies start at the same place. */
+static void lend(struct lent *b, size_t size)
+{
+    for (int side = 0; side < SIDES; side++)
+        memset(copy_of(b, side), CANARY, b->size);
+    uint32_t where = draw_below(&chance, 4);
+    b->size = b->said = size;
+    b->start = where == 0 ? 0 : where == 1 ? draw_below(&chance, (uint32_t)(AREA - size + 1)) : AREA - size;
+}
+
+/* Sets both copies. */
+static void fill(struct lent *b, const uint8_t *bytes)
+{
+    for (int side = 0; side < SIDES; side++)
+        memcpy(copy_of(b, side), bytes, b->size);
+}
+
+static bool is_canary(const uint8_t *from, size_t size)
+{
+    for (size_t k = 0; k < size; k++)
+        if (from[k] != CANARY)
+            return false;
+    return true;
+}
+
+/* Looks at the bytes around a buffer, as far as they are given. */
+static void look_around(const struct lent *b, size_t far)
+{
+    size_t end = b->start + b->size;
+    size_t below = b->start < far ? b->start : far, above = AREA - end < far ? AREA - end : far;
+    for (int side = 0; side < SIDES; side++)
+        if (!is_canary(b->area[side] + b->start - below, below) || !is_canary(b->area[side] + end, above))
+            differs("bytes were written around the ", b->name);
+}
+
+/* Whether a side left the bytes of a buffer from a place on as they were. */
+static void must_keep(const struct lent *b, size_t from, const char *what)
+{
+    for (int side = 0; side < SIDES; side++)
+        if (from < b->size && memcmp(copy_of(b, side) + from, b->before + from, b->size - from) != 0)
+            differs(what, side_names[side]);
+}
+
+static void compare_buffer(const struct lent *b, uint32_t number)
+{
+    if (b->size != 0 && memcmp(copy_of(b, LIBRARY), copy_of(b, MODEL), b->size) != 0)
+        differs("the two differ in the ", b->name);
+    look_around(b, BESIDE);
+    if (number >= 5)
+        must_keep(b, 0, "5 or 6 and yet a byte was written by ");
+}
+
+static void compare(void)
+{
+    static const struct lent *const all[] = {&table, &line, &reply, &pulses};
+    uint32_t number = call.results[LIBRARY] & 0xff;
+    if (call.results[LIBRARY] != call.results[MODEL])
+        differs("the results differ", "");
+    if (number > 6 || (call.kind != COMMAND && call.results[LIBRARY] > 6))
+        differs("there is no such number", "");
+    for (int k = 0; k < 4; k++)
+        if (is_lent(all[k]))
+            compare_buffer(all[k], number);
+    if (call.kind == COMMAND) {
+        must_keep(&line, 0, "the line was written by ");
+        must_keep(&reply, call.results[LIBRARY] >> 8, "bytes past the reply were written by ");
+    }
+    numbers[call.kind][number]++;
+}
+
+static void keep_before(struct lent *b)
+{
+    if (is_lent(b) && b->size != 0)
+        memcpy(b->before, copy_of(b, LIBRARY), b->size);
+}
+
+/* The last call is made: says how many gave which number, so that it can be seen what the run reached. */
+static _Noreturn void finish(void)
+{
+    printf("differ: seed %" PRIu64 ", %" PRIu64 " calls, no difference; by the number given:\n%8s", seed, made, "");
+    for (int number = 0; number < 7; number++)
+        printf(" %10d", number);
+    for (int kind = 0; kind < CALLS; kind++) {
+        printf("\n%8s", call_names[kind]);
+        for (int number = 0; number < 7; number++)
+            printf(" %10" PRIu64, numbers[kind][number]);
+    }
+    printf("\n");
+    exit(0);
+}
+
+/* Makes a call on both sides, each on its own copies, and compares. */
+static void make_call(int kind)
+{
+    uint8_t *t[SIDES] = {copy_of(&table, LIBRARY), copy_of(&table, MODEL)};
+    uint8_t *l[SIDES] = {copy_of(&line, LIBRARY), copy_of(&line, MODEL)};
+    uint8_t *r[SIDES] = {copy_of(&reply, LIBRARY), copy_of(&reply, MODEL)};
+    uint8_t *p[SIDES] = {copy_of(&pulses, LIBRARY), copy_of(&pulses, MODEL)};
+    uint32_t *results = call.results;
+    call.kind = kind;
+    made++;
+    keep_before(&table);
+    keep_before(&line);
+    keep_before(&reply);
+    keep_before(&pulses);
+    switch (kind) {
+    case FRESH:
+        results[LIBRARY] = urqolina_fresh(t[LIBRARY], table.said);
+        results[MODEL] = model_fresh(t[MODEL], table.said);
+        break;
+    case COMMAND:
+        results[LIBRARY] = urqolina_command(t[LIBRARY], table.said, l[LIBRARY], line.said, r[LIBRARY], reply.said);
+        results[MODEL] = model_command(t[MODEL], table.said, l[MODEL], line.said, r[MODEL], reply.said);
+        break;
+    case READING:
+        results[LIBRARY] = urqolina_reading(t[LIBRARY], table.said, call.channel, call.contacts);
+        results[MODEL] = model_reading(t[MODEL], table.said, call.channel, call.contacts);
+        break;
+    default:
+        results[LIBRARY] = urqolina_tick(t[LIBRARY], table.said, p[LIBRARY], pulses.said);
+        results[MODEL] = model_tick(t[MODEL], table.said, p[MODEL], pulses.said);
+        break;
+    }
+    compare();
+    if (made == wanted)
+        finish();
+}
+
+/* Lends a buffer with any bytes in it. */
+static void lend_any(struct lent *b, size_t size)
+{
+    static uint8_t bytes[AREA];
+    lend(b, size);
+    draw_bytes(&chance, bytes, size);
+    fill(b, bytes);
+}
+
+/* A size: the right one, or now and then a wrong one, beside it or anywhere. */
+static size_t draw_size(size_t right)
+{
+    if (!draw_once_in(&chance, 200))
+        return right;
+    return draw_once_in(&chance, 2) ? right - 1 + draw_below(&chance, 3) : draw_below(&chance, (uint32_t)(2 * right + 1));
+}
+
+static void make_command(const uint8_t *bytes, size_t size)
+{
+    lend(&line, size);
+    fill(&line, bytes);
+    lend_any(&reply, draw_size(32 + (draw_once_in(&chance, 4) ? draw_below(&chance, 40) : 0)));
+    make_call(COMMAND);
+}
+
+/* A command for the table as it stands: a line with a form, or once in four times a damaged one. */
+static void draw_command(void)
+{
+    static uint8_t bytes[DRAW_LINE_MOST];
+    size_t size = draw_line(&chance, table.size == URQOLINA_TABLE_SIZE ? copy_of(&table, MODEL) : table.before, bytes);
+    if (draw_once_in(&chance, 4))
+        size = draw_line_damage(&chance, bytes, size);
+    make_command(bytes, size);
+}
+
+/* A reading, now and then out of range. */
+static void draw_reading(void)
+{
+    call.channel = draw_below(&chance, 16);
+    call.contacts = draw_below(&chance, 8);
+    if (draw_once_in(&chance, 30))
+        call.channel = draw_once_in(&chance, 2) ? draw_word(&chance) : call.channel | 1u << (4 + draw_below(&chance, 28));
+    if (draw_once_in(&chance, 30))
+        call.contacts = draw_once_in(&chance, 2) ? draw_word(&chance) : call.contacts | 1u << (3 + draw_below(&chance, 29));
+    make_call(READING);
+}
+
+static void draw_tick(void)
+{
+    if (pulses.size != 64 || draw_once_in(&chance, 16))
+        lend_any(&pulses, draw_size(64));
+    make_call(TICK);
+}
+
+static void draw_call(void)
+{
+    switch (draw_below(&chance, 16)) {
+    case 0: draw_reading(); return;
+    case 1: case 2: case 3: case 4: case 5: case 6: case 7: draw_tick(); return;
+    default: draw_command(); return;
+    }
+}
+
+/* The table's two copies anew. */
+static void lend_table(const uint8_t *bytes, size_t size)
+{
+    lend(&table, size);
+    fill(&table, bytes);
+}
+
+/* Calls one after the other on one table, which goes on from call to call: from a fresh one, or from one in a rare state. Both
+   are sound, and stay so. */
+static void session(bool fresh, uint32_t most)
+{
+    static uint8_t bytes[URQOLINA_TABLE_SIZE];
+    draw_sound_table(&chance, bytes);
+    lend_table(bytes, sizeof bytes);
+    if (fresh)
+        make_call(FRESH);
+    for (uint32_t k = 1 + draw_below(&chance, most); k > 0; k--) {
+        draw_call();
+        if ((call.results[LIBRARY] & 0xff) == URQOLINA_NOT_SOUND)
+            differs("a table that must be sound was answered 6", "");
+    }
+}
+
+/* One call on each of some tables that are damaged, in one byte or in many, or are any bytes. */
+static void damaged(void)
+{
+    static uint8_t sound[URQOLINA_TABLE_SIZE], bytes[URQOLINA_TABLE_SIZE];
+    draw_sound_table(&chance, sound);
+    for (uint32_t k = 0; k < 24; k++) {
+        memcpy(bytes, sound, sizeof bytes);
+        uint32_t times = draw_once_in(&chance, 4) ? 2 + draw_below(&chance, 40) : 1;
+        for (uint32_t n = 0; n < times; n++)
+            draw_damage(&chance, bytes);
+        if (draw_once_in(&chance, 50))
+            draw_bytes(&chance, bytes, sizeof bytes);
+        lend_table(bytes, sizeof bytes);
+        draw_call();
+        if (draw_once_in(&chance, 50))
+            make_call(FRESH);
+    }
+}
+
+/* Each call on a table of a wrong size, whose bytes are a sound table's as far as they go. */
+static void wrong_table_size(size_t size)
+{
+    static uint8_t bytes[AREA];
+    draw_sound_table(&chance, bytes);
+    lend_table(bytes, size);
+    make_call(FRESH);
+    lend_table(bytes, size);
+    make_command((const uint8_t *)"REM", 3);
+    draw_reading();
+    draw_tick();
+}
+
+/* Every size that a buffer may have up to past its right one, each once. */
+static void every_size(void)
+{
+    static uint8_t bytes[AREA];
+    for (size_t size = 0; size <= 2 * URQOLINA_TABLE_SIZE + 2; size++)
+        if (size != URQOLINA_TABLE_SIZE)
+            wrong_table_size(size);
+    session(true, 1);
+    for (size_t size = 0; size <= 300; size++) {
+        lend_any(&reply, size);
+        lend(&line, 5);
+        fill(&line, (const uint8_t *)"STS0?");
+        make_call(COMMAND);
+        lend_any(&pulses, size);
+        make_call(TICK);
+        memset(bytes, '0', size);
+        memcpy(bytes, "ABS0+", size < 5 ? size : 5);
+        make_command(bytes, size);
+    }
+}
+
+/* Sizes that a count of 32 bits would cut to the right one. No call has to look at a byte past those that are there. */
+static void sizes_past_32_bits(void)
+{
+    static struct lent *const all[] = {&table, &line, &reply, &pulses};
+    for (int k = 0; k < 4; k++) {
+        session(true, 1);
+        lend(&line, 5);
+        fill(&line, (const uint8_t *)"STS0?");
+        lend_any(&reply, 32);
+        lend_any(&pulses, 64);
+        all[k]->said += (size_t)1 << 32;
+        for (int kind = 0; kind < CALLS; kind++)
+            make_call(kind);
+        all[k]->said = all[k]->size;
+    }
+}
+
+/* Channels and contacts about the ends of their ranges, each with each. */
+static void every_reading(void)
+{
+    for (uint32_t channel = 0; channel < 40; channel++)
+        for (uint32_t contacts = 0; contacts < 20; contacts++) {
+            call.channel = channel;
+            call.contacts = contacts;
+            make_call(READING);
+        }
+}
+
+/* One line with each of the 256 bytes in one of its places, on one table. */
+static void every_byte(void)
+{
+    static uint8_t bytes[URQOLINA_TABLE_SIZE], text[DRAW_LINE_MOST];
+    draw_sound_table(&chance, bytes);
+    size_t size = draw_line(&chance, bytes, text), at = draw_below(&chance, (uint32_t)size);
+    for (unsigned byte = 0; byte < 256; byte++) {
+        lend_table(bytes, sizeof bytes);
+        text[at] = (uint8_t)byte;
+        make_command(text, size);
+    }
+}
+
+/* An episode: what the run is made of. */
+static void episode(void)
+{
+    static const struct lent *const all[] = {&table, &line, &reply, &pulses};
+    switch (draw_below(&chance, 64)) {
+    case 0: session(true, 10000); break;
+    case 1: every_byte(); break;
+    case 2: case 3: wrong_table_size(draw_below(&chance, 1200)); break;
+    case 4: case 5: case 6: case 7: session(true, 200); break;
+    default: draw_once_in(&chance, 3) ? session(false, 30) : damaged(); break;
+    }
+    for (int k = 0; k < 4; k++)
+        look_around(all[k], AREA);
+}
+
+int main(int count, char **words)
+{
+    wanted = count > 1 ? strtoull(words[1], NULL, 10) : wanted;
+    seed = count > 2 ? strtoull(words[2], NULL, 10) : seed;
+    if (count > 3 || wanted == 0) {
+        fprintf(stderr, "usage: differ [N [SEED]]\n");
+        return 2;
+    }
+    chance.state = seed;
+    signal(SIGSEGV, on_fault);
+    signal(SIGBUS, on_fault);
+    make_areas(&table);
+    make_areas(&line);
+    make_areas(&reply);
+    make_areas(&pulses);
+    lend(&pulses, 64);
+    every_size();
+    sizes_past_32_bits();
+    every_reading();
+    for (;;)
+        episode();
+}

@@ -1,0 +1,926 @@
+/*
+ * Document 01 once more, in plain C, written from the document alone. It is compared with the proved library call by
+ * call, and the library's speed is measured beside it. Words in quotation marks are the document's.
+ */
+#include "model.h"
+
+#include <stdbool.h>
+#include <string.h>
+
+/* ---- The table ---- */
+
+enum { HEAD_SIZE = 64, RECORD_SIZE = 64, MOTORS = 16, TABLE_SIZE = 1088, REPLY_LEAST = 32, PULSES_SIZE = 64 };
+
+/* Places in the head. */
+enum { MODE = 0, ALL_REPLY = 1, ERROR_FLAGS = 2, HEAD_ZEROS = 3 };
+
+/* Places in a record. */
+enum {
+    POSITION = 0,
+    CW_LIMIT = 4,
+    CCW_LIMIT = 8,
+    HSPD = 12,
+    MSPD = 16,
+    LSPD = 20,
+    SELECTED = 24,
+    SETLS = 25,
+    CONTACTS = 26,
+    SETMT_A = 27,
+    SETMT_B = 28,
+    SETMT_C = 29,
+    SETMT_D = 30,
+    END_FLAGS = 31,
+    DIRECTION = 32,
+    KIND = 33,
+    FRACTION = 34,
+    SPEED_IN_FORCE = 36,
+    TARGET = 40,
+    RECORD_ZEROS = 44
+};
+
+enum { LOCAL = 0, REMOTE = 1 };
+enum { SPEED_L = 0, SPEED_M = 1, SPEED_H = 2 };
+enum { ESEND = 0x80, SSEND = 0x40, LSEND = 0x20, NO_END = 0 };
+enum { SCAN = 0, TO_TARGET = 1 };
+
+/* A direction's number is also the bit of its switch in the contacts: "bit 0 CW, bit 1 CCW". */
+enum { STOPPED = 0, CW = 1, CCW = 2 };
+
+/* SETLS as a byte, DYYY0yyy: D, the three enables from bit 4 on, the fixed 0, the three polarities from bit 0 on. */
+enum { SETLS_DIGITAL = 0x80, SETLS_ENABLES = 4, SETLS_FIXED = 0x08, ALL_CONTACTS = 7 };
+
+static const int32_t POSITION_MOST = 2147483647;
+static const uint32_t SPEED_MOST = 5000000;
+
+/* "Numbers handed back" */
+enum { OK = 0, COMMAND_ERROR = 1, BUSY_ERROR = 2, PARAMETER_ERROR = 3, NG = 4, WRONG_SIZE = 5, NOT_SOUND = 6 };
+
+/* ---- Numbers in the table, little-endian ---- */
+
+static inline uint32_t load2(const uint8_t *at)
+{
+    return (uint32_t)at[0] | (uint32_t)at[1] << 8;
+}
+
+static inline uint32_t load4(const uint8_t *at)
+{
+    return (uint32_t)at[0] | (uint32_t)at[1] << 8 | (uint32_t)at[2] << 16 | (uint32_t)at[3] << 24;
+}
+
+static inline uint64_t load8(const uint8_t *at)
+{
+    return (uint64_t)load4(at) | (uint64_t)load4(at + 4) << 32;
+}
+
+/* int32_t is two's complement wherever it exists, so its bits are the number. */
+static inline int32_t load_signed(const uint8_t *at)
+{
+    uint32_t bits = load4(at);
+    int32_t number;
+    memcpy(&number, &bits, sizeof number);
+    return number;
+}
+
+static inline void store2(uint8_t *at, uint32_t number)
+{
+    at[0] = (uint8_t)number;
+    at[1] = (uint8_t)(number >> 8);
+}
+
+static inline void store4(uint8_t *at, uint32_t number)
+{
+    at[0] = (uint8_t)number;
+    at[1] = (uint8_t)(number >> 8);
+    at[2] = (uint8_t)(number >> 16);
+    at[3] = (uint8_t)(number >> 24);
+}
+
+/* Eight bytes for a zero test only: their order is of no account there. */
+static inline uint64_t any_bits(const uint8_t *at)
+{
+    uint64_t bits;
+    memcpy(&bits, at, sizeof bits);
+    return bits;
+}
+
+static inline uint8_t *motor_of(uint8_t *table, uint32_t channel)
+{
+    return table + HEAD_SIZE + RECORD_SIZE * channel;
+}
+
+/* ---- Switches, room and drives ---- */
+
+/* "closed and N.O., or open and N.C.": the contact differs from the polarity. */
+static inline uint32_t active_switches(const uint8_t *motor)
+{
+    return (uint32_t)(motor[CONTACTS] ^ motor[SETLS]) & ALL_CONTACTS;
+}
+
+/* An active enabled switch of this direction; none for a stopped motor, which has no direction. */
+static inline bool switch_ahead(const uint8_t *motor, uint32_t direction)
+{
+    uint32_t enabled = (uint32_t)motor[SETLS] >> SETLS_ENABLES;
+    return (active_switches(motor) & enabled & direction) != 0;
+}
+
+/* How far a place lies ahead in a direction; negative if it lies behind. */
+static inline int64_t ahead(uint32_t direction, int64_t from, int64_t to)
+{
+    return direction == CW ? to - from : from - to;
+}
+
+/* A sound digital limit lies within the positions' range, so with D = 1 it is the nearer of the two ends. */
+static inline int64_t room(const uint8_t *motor, uint32_t direction)
+{
+    int64_t end = direction == CW ? POSITION_MOST : -POSITION_MOST;
+    if ((motor[SETLS] & SETLS_DIGITAL) != 0)
+        end = load_signed(motor + (direction == CW ? CW_LIMIT : CCW_LIMIT));
+    return ahead(direction, load_signed(motor + POSITION), end);
+}
+
+static inline int64_t target_distance(const uint8_t *motor, uint32_t direction)
+{
+    return ahead(direction, load_signed(motor + POSITION), load_signed(motor + TARGET));
+}
+
+/* "Ending zeroes bytes 32..43." */
+static inline void end_drive(uint8_t *motor, uint8_t flags)
+{
+    motor[END_FLAGS] = flags;
+    memset(motor + DIRECTION, 0, RECORD_ZEROS - DIRECTION);
+}
+
+/* ---- Soundness ---- */
+
+static inline bool position_sound(const uint8_t *at)
+{
+    return load_signed(at) >= -POSITION_MOST;
+}
+
+static inline bool speed_sound(uint32_t speed)
+{
+    return speed >= 1 && speed <= SPEED_MOST;
+}
+
+/* The bits that may be set in bytes 24 to 31, read as one number. */
+#define MAY_SET(place, bits) ((uint64_t)(bits) << (8 * ((place) - SELECTED)))
+static const uint64_t SMALL_FIELDS =
+    MAY_SET(SELECTED, 3) | MAY_SET(SETLS, 0xff ^ SETLS_FIXED) | MAY_SET(CONTACTS, ALL_CONTACTS) |
+    MAY_SET(SETMT_A, 1) | MAY_SET(SETMT_B, 1) | MAY_SET(SETMT_C, 0) | MAY_SET(SETMT_D, 3) |
+    MAY_SET(END_FLAGS, ESEND | SSEND | LSEND);
+
+/* Bytes 24 to 31. Two fields stop at 2, and at most one end flag is set. */
+static inline bool small_fields_sound(const uint8_t *motor)
+{
+    uint32_t flags = motor[END_FLAGS];
+    return (load8(motor + SELECTED) & ~SMALL_FIELDS) == 0 && motor[SELECTED] <= 2 && motor[SETMT_D] <= 2 &&
+           (flags & (flags - 1)) == 0;
+}
+
+/* Bytes 0 to 31. */
+static inline bool settings_sound(const uint8_t *motor)
+{
+    return position_sound(motor + POSITION) && position_sound(motor + CW_LIMIT) && position_sound(motor + CCW_LIMIT) &&
+           speed_sound(load4(motor + HSPD)) && speed_sound(load4(motor + MSPD)) && speed_sound(load4(motor + LSPD)) &&
+           small_fields_sound(motor);
+}
+
+/* "for a target, a target strictly ahead (for a scan, target field 0)" */
+static bool target_sound(const uint8_t *motor, uint32_t direction)
+{
+    if (motor[KIND] == SCAN)
+        return load4(motor + TARGET) == 0;
+    return motor[KIND] == TO_TARGET && position_sound(motor + TARGET) && target_distance(motor, direction) >= 1;
+}
+
+/* Bytes 32 to 63 of a driving record, whose settings are sound. */
+static bool drive_sound(const uint8_t *motor)
+{
+    uint32_t direction = motor[DIRECTION];
+    if (direction != CW && direction != CCW)
+        return false;
+    if ((load4(motor + RECORD_ZEROS) | any_bits(motor + 48) | any_bits(motor + 56)) != 0)
+        return false;
+    return load2(motor + FRACTION) <= 999 && speed_sound(load4(motor + SPEED_IN_FORCE)) &&
+           motor[END_FLAGS] == NO_END && motor[SETMT_A] == 1 && room(motor, direction) >= 1 &&
+           !switch_ahead(motor, direction) && target_sound(motor, direction);
+}
+
+/* A stopped record has zeros from 32 to its end; one with a bit set there must be a sound drive. */
+static bool motor_sound(const uint8_t *motor)
+{
+    if (!settings_sound(motor))
+        return false;
+    uint64_t bits = any_bits(motor + 32) | any_bits(motor + 40) | any_bits(motor + 48) | any_bits(motor + 56);
+    return bits == 0 || drive_sound(motor);
+}
+
+/* The zeros are looked at from 3 to 10 and from 8 on. */
+static bool head_sound(const uint8_t *table)
+{
+    uint64_t bits = any_bits(table + HEAD_ZEROS);
+    for (size_t place = 8; place < HEAD_SIZE; place += 8)
+        bits |= any_bits(table + place);
+    return table[MODE] <= REMOTE && table[ALL_REPLY] <= 1 && table[ERROR_FLAGS] <= 15 && bits == 0;
+}
+
+static bool table_sound(const uint8_t *table)
+{
+    if (!head_sound(table))
+        return false;
+    for (const uint8_t *motor = table + HEAD_SIZE; motor < table + TABLE_SIZE; motor += RECORD_SIZE)
+        if (!motor_sound(motor))
+            return false;
+    return true;
+}
+
+/* ---- The forms of a line ---- */
+
+/* What follows a form's word. Those from CHANNEL on begin with x. */
+enum tail {
+    NOTHING, MAYBE_E,
+    CHANNEL, CHANNEL_ASK, CHANNEL_SIGNED, CHANNEL_SPEED, CHANNEL_MAYBE_SPEED, CHANNEL_LS, CHANNEL_MT
+};
+
+/*
+ * When an order is taken. A read is taken in both modes and has a reply of its own; other orders are taken in both
+ * modes, in remote mode, or in remote mode on a stopped motor.
+ */
+enum taken { READ, BOTH_MODES, REMOTE_ONLY, REMOTE_STOPPED };
+
+enum verb {
+    NO_VERB,
+    GO_TO, GO_BY, JOG, GO_SCAN, CHANGE_SPEED,
+    STOP, STOP_ALL,
+    SET_PLACE, SELECT_OR_SET_SPEED, SET_LS, SET_MT,
+    SET_MODE, SET_ALL_REPLY, CLEAR_ERRORS,
+    READ_PLACE, READ_SELECTED, READ_SPEED, READ_LS, READ_MT, READ_STATUS, READ_ALL_REPLY, READ_FLAGS, READ_ERROR
+};
+
+/* The detail is the direction, end flag, place in the record, speed or value that tells forms of one verb apart. */
+struct form {
+    uint8_t word[11];
+    uint8_t size;
+    uint8_t tail;
+    uint8_t taken;
+    uint8_t verb;
+    uint8_t detail;
+};
+
+#define FORM(word, tail, taken, verb, detail) {word, sizeof word - 1, tail, taken, verb, detail}
+
+/* An empty word begins every line, so this row ends every list. */
+#define NO_FORM FORM("", NOTHING, READ, NO_VERB, 0)
+
+/*
+ * The forms by their first letter, those in S by the second too. A word with ? stands before the word that it
+ * lengthens; the longer one then decides, since ? is no x.
+ */
+static const struct form FORMS_A[] = {
+    FORM("ABS", CHANNEL_SIGNED, REMOTE_STOPPED, GO_TO, 0),
+    FORM("ASSTP", NOTHING, BOTH_MODES, STOP_ALL, SSEND),
+    FORM("AESTP", NOTHING, BOTH_MODES, STOP_ALL, ESEND),
+    FORM("ALL_REP?", NOTHING, READ, READ_ALL_REPLY, 0),
+    FORM("ALL_REP EN", NOTHING, REMOTE_ONLY, SET_ALL_REPLY, 1),
+    FORM("ALL_REP DS", NOTHING, REMOTE_ONLY, SET_ALL_REPLY, 0),
+    NO_FORM
+};
+static const struct form FORMS_B[] = {
+    FORM("BL?", CHANNEL, READ, READ_PLACE, CCW_LIMIT),
+    FORM("BL", CHANNEL_SIGNED, REMOTE_STOPPED, SET_PLACE, CCW_LIMIT),
+    NO_FORM
+};
+static const struct form FORMS_E[] = {
+    FORM("ESTP", CHANNEL, BOTH_MODES, STOP, ESEND),
+    FORM("ERRF?", NOTHING, READ, READ_FLAGS, 0),
+    FORM("ERR?", NOTHING, READ, READ_ERROR, 0),
+    FORM("ERRC", MAYBE_E, BOTH_MODES, CLEAR_ERRORS, 0),
+    NO_FORM
+};
+static const struct form FORMS_F[] = {
+    FORM("FL?", CHANNEL, READ, READ_PLACE, CW_LIMIT),
+    FORM("FL", CHANNEL_SIGNED, REMOTE_STOPPED, SET_PLACE, CW_LIMIT),
+    NO_FORM
+};
+static const struct form FORMS_J[] = {
+    FORM("JOGP", CHANNEL, REMOTE_STOPPED, JOG, CW),
+    FORM("JOGN", CHANNEL, REMOTE_STOPPED, JOG, CCW),
+    NO_FORM
+};
+static const struct form FORMS_L[] = {
+    FORM("LOC", NOTHING, BOTH_MODES, SET_MODE, LOCAL),
+    NO_FORM
+};
+static const struct form FORMS_P[] = {
+    FORM("PS?", CHANNEL, READ, READ_PLACE, POSITION),
+    FORM("PS", CHANNEL_SIGNED, REMOTE_STOPPED, SET_PLACE, POSITION),
+    NO_FORM
+};
+static const struct form FORMS_R[] = {
+    FORM("REL", CHANNEL_SIGNED, REMOTE_STOPPED, GO_BY, 0),
+    FORM("REM", NOTHING, BOTH_MODES, SET_MODE, REMOTE),
+    NO_FORM
+};
+static const struct form FORMS_SC[] = {
+    FORM("SCANP", CHANNEL, REMOTE_STOPPED, GO_SCAN, CW),
+    FORM("SCANN", CHANNEL, REMOTE_STOPPED, GO_SCAN, CCW),
+    NO_FORM
+};
+static const struct form FORMS_SE[] = {
+    FORM("SETLS?", CHANNEL, READ, READ_LS, 0),
+    FORM("SETMT?", CHANNEL, READ, READ_MT, 0),
+    FORM("SETLS", CHANNEL_LS, REMOTE_STOPPED, SET_LS, 0),
+    FORM("SETMT", CHANNEL_MT, REMOTE_STOPPED, SET_MT, 0),
+    NO_FORM
+};
+static const struct form FORMS_SP[] = {
+    FORM("SPC", CHANNEL_SPEED, REMOTE_ONLY, CHANGE_SPEED, 0),
+    FORM("SPD?", CHANNEL, READ, READ_SELECTED, 0),
+    FORM("SPDH?", CHANNEL, READ, READ_SPEED, SPEED_H),
+    FORM("SPDM?", CHANNEL, READ, READ_SPEED, SPEED_M),
+    FORM("SPDL?", CHANNEL, READ, READ_SPEED, SPEED_L),
+    FORM("SPDH", CHANNEL_MAYBE_SPEED, REMOTE_STOPPED, SELECT_OR_SET_SPEED, SPEED_H),
+    FORM("SPDM", CHANNEL_MAYBE_SPEED, REMOTE_STOPPED, SELECT_OR_SET_SPEED, SPEED_M),
+    FORM("SPDL", CHANNEL_MAYBE_SPEED, REMOTE_STOPPED, SELECT_OR_SET_SPEED, SPEED_L),
+    NO_FORM
+};
+static const struct form FORMS_SS[] = {
+    FORM("SSTP", CHANNEL, BOTH_MODES, STOP, SSEND),
+    NO_FORM
+};
+static const struct form FORMS_ST[] = {
+    FORM("STS", CHANNEL_ASK, READ, READ_STATUS, 0),
+    NO_FORM
+};
+static const struct form FORMS_NONE[] = {NO_FORM};
+
+static const struct form *forms_from_s(uint8_t second)
+{
+    switch (second) {
+    case 'C': return FORMS_SC;
+    case 'E': return FORMS_SE;
+    case 'P': return FORMS_SP;
+    case 'S': return FORMS_SS;
+    case 'T': return FORMS_ST;
+    default: return FORMS_NONE;
+    }
+}
+
+static const struct form *forms_from(uint8_t first, uint8_t second)
+{
+    switch (first) {
+    case 'A': return FORMS_A;
+    case 'B': return FORMS_B;
+    case 'E': return FORMS_E;
+    case 'F': return FORMS_F;
+    case 'J': return FORMS_J;
+    case 'L': return FORMS_L;
+    case 'P': return FORMS_P;
+    case 'R': return FORMS_R;
+    case 'S': return forms_from_s(second);
+    default: return FORMS_NONE;
+    }
+}
+
+/* ---- Reading a line ---- */
+
+/* "The line in hand and the place reached travel together as one reader over the caller's bytes." */
+struct reader {
+    const uint8_t *line;
+    size_t size;
+    size_t place;
+};
+
+/* A line that has a form. Whether its values are in range is kept, since local mode is judged before them. */
+struct order {
+    const struct form *form;
+    uint32_t channel;
+    bool in_range;
+    bool has_speed;
+    int32_t number;    /* the signed number, the SETLS byte, or the error flags to clear */
+    uint32_t speed;
+    uint8_t digits[4]; /* of SETMT, as they stand in the record */
+};
+
+/* The first letter has led to the form already. */
+static bool begins(const struct reader *reader, const struct form *form)
+{
+    if (form->size > reader->size)
+        return false;
+    for (size_t place = 1; place < form->size; place++)
+        if (reader->line[place] != form->word[place])
+            return false;
+    return true;
+}
+
+static inline bool at_end(const struct reader *reader)
+{
+    return reader->place == reader->size;
+}
+
+/* Takes one byte if it is this one. */
+static inline bool take_byte(struct reader *reader, uint8_t byte)
+{
+    if (at_end(reader) || reader->line[reader->place] != byte)
+        return false;
+    reader->place++;
+    return true;
+}
+
+static inline bool take_digit(struct reader *reader, uint32_t *digit)
+{
+    if (at_end(reader) || reader->line[reader->place] < '0' || reader->line[reader->place] > '9')
+        return false;
+    *digit = (uint32_t)(reader->line[reader->place] - '0');
+    reader->place++;
+    return true;
+}
+
+static bool take_channel(struct reader *reader, uint32_t *channel)
+{
+    if (take_digit(reader, channel))
+        return true;
+    if (at_end(reader) || reader->line[reader->place] < 'A' || reader->line[reader->place] > 'F')
+        return false;
+    *channel = (uint32_t)(reader->line[reader->place] - 'A') + 10;
+    reader->place++;
+    return true;
+}
+
+/* "d: 1 to 10 digits." An eleventh is left over, and no form goes on after a number. */
+static bool take_number(struct reader *reader, uint64_t *number)
+{
+    uint32_t digit;
+    size_t start = reader->place;
+    *number = 0;
+    while (reader->place - start < 10 && take_digit(reader, &digit))
+        *number = *number * 10 + digit;
+    return reader->place > start;
+}
+
+/* "a sign, then 1 to 10 digits, its range the positions' range, REL's too" */
+static bool take_signed(struct reader *reader, struct order *order)
+{
+    uint64_t number;
+    bool minus = take_byte(reader, '-');
+    if ((!minus && !take_byte(reader, '+')) || !take_number(reader, &number))
+        return false;
+    order->in_range = number <= (uint64_t)POSITION_MOST;
+    if (order->in_range)
+        order->number = minus ? -(int32_t)number : (int32_t)number;
+    return true;
+}
+
+static bool take_speed(struct reader *reader, struct order *order)
+{
+    uint64_t number;
+    if (!take_number(reader, &number))
+        return false;
+    order->in_range = number >= 1 && number <= SPEED_MOST;
+    order->speed = (uint32_t)number;
+    order->has_speed = true;
+    return true;
+}
+
+/* DYYY0yyy: "the 0 is itself; D, Y and y are 0 or 1". */
+static bool take_ls(struct reader *reader, struct order *order)
+{
+    uint32_t byte = 0;
+    for (uint32_t bit = 0x80; bit != 0; bit >>= 1) {
+        uint32_t digit;
+        if (!take_digit(reader, &digit) || (bit == SETLS_FIXED && digit != 0))
+            return false;
+        if (digit > 1)
+            order->in_range = false;
+        else if (digit == 1)
+            byte |= bit;
+    }
+    order->number = (int32_t)byte;
+    return true;
+}
+
+/* ABCD: "A (0, 1), B (0, 1), C (0), D (0..2)". */
+static bool take_mt(struct reader *reader, struct order *order)
+{
+    static const uint8_t most[4] = {1, 1, 0, 2};
+    for (size_t place = 0; place < 4; place++) {
+        uint32_t digit;
+        if (!take_digit(reader, &digit))
+            return false;
+        if (digit > most[place])
+            order->in_range = false;
+        order->digits[place] = (uint8_t)digit;
+    }
+    return true;
+}
+
+/* "ERRC clears all error flags, ERRCe bit e, 0 to 3." */
+static void take_e(struct reader *reader, struct order *order)
+{
+    uint32_t bit;
+    order->number = 15;
+    if (take_digit(reader, &bit)) {
+        order->in_range = bit <= 3;
+        order->number = 1 << bit;
+    }
+}
+
+static bool take_tail(struct reader *reader, struct order *order)
+{
+    uint32_t tail = order->form->tail;
+    if (tail >= CHANNEL && !take_channel(reader, &order->channel))
+        return false;
+    switch (tail) {
+    case MAYBE_E:
+        take_e(reader, order);
+        return true;
+    case CHANNEL_ASK:
+        return take_byte(reader, '?');
+    case CHANNEL_SIGNED:
+        return take_signed(reader, order);
+    case CHANNEL_SPEED:
+        return take_speed(reader, order);
+    case CHANNEL_MAYBE_SPEED:
+        return at_end(reader) || take_speed(reader, order);
+    case CHANNEL_LS:
+        return take_ls(reader, order);
+    case CHANNEL_MT:
+        return take_mt(reader, order);
+    default:
+        return true;
+    }
+}
+
+/* False for a line of no form. Every form has 3 to 15 bytes, so a line over 80 bytes has none. */
+static bool read_order(const uint8_t *line, size_t line_size, struct order *order)
+{
+    if (line_size < 2)
+        return false;
+    struct reader reader = {line, line_size, 0};
+    const struct form *form = forms_from(line[0], line[1]);
+    while (!begins(&reader, form))
+        form++;
+    if (form->verb == NO_VERB)
+        return false;
+    order->form = form;
+    order->in_range = true;
+    reader.place = form->size;
+    return take_tail(&reader, order) && at_end(&reader);
+}
+
+/* ---- Obeying an order ---- */
+
+/* HSPD, MSPD and LSPD stand in falling order of their numbers. */
+static uint32_t speed_place(uint32_t speed)
+{
+    return LSPD - (LSPD - MSPD) * speed;
+}
+
+/* "A start takes the selected speed, fraction 0, and clears the end flags." A stopped motor's fraction is 0 already. */
+static uint32_t start(uint8_t *motor, uint8_t direction, uint8_t kind, int32_t target)
+{
+    if (motor[SETMT_A] == 0 || switch_ahead(motor, direction) || room(motor, direction) < 1)
+        return NG;
+    motor[END_FLAGS] = NO_END;
+    motor[DIRECTION] = direction;
+    motor[KIND] = kind;
+    store4(motor + SPEED_IN_FORCE, load4(motor + speed_place(motor[SELECTED])));
+    store4(motor + TARGET, (uint32_t)target);
+    return OK;
+}
+
+/* "ABS to the present position, REL 0 [...] are OK and change nothing." */
+static uint32_t start_to(uint8_t *motor, int64_t target)
+{
+    int32_t position = load_signed(motor + POSITION);
+    if (target == position)
+        return OK;
+    if (target < -POSITION_MOST || target > POSITION_MOST)
+        return PARAMETER_ERROR;
+    return start(motor, target > position ? CW : CCW, TO_TARGET, (int32_t)target);
+}
+
+static uint32_t start_by(uint8_t *motor, int32_t distance)
+{
+    return start_to(motor, (int64_t)load_signed(motor + POSITION) + distance);
+}
+
+/* A stop on a stopped motor is OK and changes nothing. */
+static void stop(uint8_t *motor, uint8_t flag)
+{
+    if (motor[DIRECTION] != STOPPED)
+        end_drive(motor, flag);
+}
+
+static void stop_all(uint8_t *table, uint8_t flag)
+{
+    for (uint32_t channel = 0; channel < MOTORS; channel++)
+        stop(motor_of(table, channel), flag);
+}
+
+/* "SPC replaces the speed in force and keeps the fraction." */
+static uint32_t change_speed(uint8_t *motor, uint32_t speed)
+{
+    if (motor[DIRECTION] == STOPPED)
+        return NG;
+    store4(motor + SPEED_IN_FORCE, speed);
+    return OK;
+}
+
+/* SPDHx, SPDMx, SPDLx "select; the same with d set". */
+static void select_or_set_speed(uint8_t *motor, const struct order *order)
+{
+    if (order->has_speed)
+        store4(motor + speed_place(order->form->detail), order->speed);
+    else
+        motor[SELECTED] = order->form->detail;
+}
+
+/* "Order: [...] local mode, value, busy" */
+static uint32_t refusal(const uint8_t *table, const uint8_t *motor, const struct order *order)
+{
+    if (order->form->taken >= REMOTE_ONLY && table[MODE] == LOCAL)
+        return NG;
+    if (!order->in_range)
+        return PARAMETER_ERROR;
+    if (order->form->taken == REMOTE_STOPPED && motor[DIRECTION] != STOPPED)
+        return BUSY_ERROR;
+    return OK;
+}
+
+/* The orders that meet checks after busy. */
+static uint32_t drive(uint8_t *motor, const struct order *order)
+{
+    uint8_t detail = order->form->detail;
+    switch (order->form->verb) {
+    case GO_TO:
+        return start_to(motor, order->number);
+    case GO_BY:
+        return start_by(motor, order->number);
+    case JOG:
+        return start_by(motor, detail == CW ? 1 : -1);
+    case GO_SCAN:
+        return start(motor, detail, SCAN, 0);
+    default:
+        return change_speed(motor, order->speed);
+    }
+}
+
+static uint32_t obey(uint8_t *table, uint8_t *motor, const struct order *order)
+{
+    uint8_t detail = order->form->detail;
+    switch (order->form->verb) {
+    case STOP:
+        stop(motor, detail);
+        return OK;
+    case STOP_ALL:
+        stop_all(table, detail);
+        return OK;
+    case SET_PLACE:
+        store4(motor + detail, (uint32_t)order->number);
+        return OK;
+    case SELECT_OR_SET_SPEED:
+        select_or_set_speed(motor, order);
+        return OK;
+    case SET_LS:
+        motor[SETLS] = (uint8_t)order->number;
+        return OK;
+    case SET_MT:
+        memcpy(motor + SETMT_A, order->digits, sizeof order->digits);
+        return OK;
+    case SET_MODE:
+        table[MODE] = detail;
+        return OK;
+    case SET_ALL_REPLY:
+        table[ALL_REPLY] = detail;
+        return OK;
+    case CLEAR_ERRORS:
+        table[ERROR_FLAGS] = (uint8_t)(table[ERROR_FLAGS] & ~order->number);
+        return OK;
+    default:
+        return drive(motor, order);
+    }
+}
+
+/* ---- Replies ---- */
+
+struct text {
+    uint8_t bytes[17];
+    uint8_t size;
+};
+
+#define TEXT(words) {words, sizeof words - 1}
+
+/* By number. */
+static const struct text NUMBER_TEXTS[] = {
+    TEXT("OK"), TEXT("COMMAND ERROR"), TEXT("MCC06 BUSY ERROR"), TEXT("PARAMETER ERROR"), TEXT("NG")
+};
+static const struct text OTHER_ERROR = TEXT("OTHER ERROR");
+static const struct text NO_ERROR = TEXT("NO ERROR");
+
+/* By the selected speed; by all-reply. */
+static const struct text SPEED_TEXTS[] = {TEXT("LSPD"), TEXT("MSPD"), TEXT("HSPD")};
+static const struct text ALL_REPLY_TEXTS[] = {TEXT("DS"), TEXT("EN")};
+
+static const uint8_t HEX[] = "0123456789ABCDEF";
+static const uint8_t DIRECTION_LETTERS[] = "SPN";
+
+static size_t write_text(uint8_t *to, const struct text *text)
+{
+    memcpy(to, text->bytes, text->size);
+    return text->size;
+}
+
+static size_t write_hex2(uint8_t *to, uint32_t byte)
+{
+    to[0] = HEX[byte >> 4];
+    to[1] = HEX[byte & 15];
+    return 2;
+}
+
+/* At least so many digits. */
+static size_t write_digits(uint8_t *to, uint32_t number, size_t least)
+{
+    static const uint32_t ten_to[10] = {
+        1, 10, 100, 1000, 10000, 100000, 1000000, 10000000, 100000000, 1000000000
+    };
+    size_t size = least;
+    while (size < 10 && number >= ten_to[size])
+        size++;
+    for (size_t place = size; place > 0; number /= 10)
+        to[--place] = (uint8_t)('0' + number % 10);
+    return size;
+}
+
+/* "a sign (+ for 0) and at least 7 digits" */
+static size_t write_place(uint8_t *to, int32_t place)
+{
+    to[0] = place < 0 ? '-' : '+';
+    return 1 + write_digits(to + 1, (uint32_t)(place < 0 ? -place : place), 7);
+}
+
+static size_t write_ls(uint8_t *to, uint32_t byte)
+{
+    for (size_t place = 0; place < 8; place++)
+        to[place] = (uint8_t)('0' + ((byte >> (7 - place)) & 1));
+    return 8;
+}
+
+static size_t write_mt(uint8_t *to, const uint8_t *motor)
+{
+    for (size_t place = 0; place < 4; place++)
+        to[place] = (uint8_t)('0' + motor[SETMT_A + place]);
+    return 4;
+}
+
+/* "STSx?: R or L; x; P, N or S; one hex digit V; two hex digits HH; position." */
+static size_t write_status(uint8_t *to, const uint8_t *table, const uint8_t *motor, uint32_t channel)
+{
+    uint32_t direction = motor[DIRECTION];
+    uint32_t hold_off = direction == STOPPED && motor[SETMT_B] == 0 ? 8 : 0;
+    to[0] = table[MODE] == REMOTE ? 'R' : 'L';
+    to[1] = HEX[channel];
+    to[2] = DIRECTION_LETTERS[direction];
+    to[3] = HEX[active_switches(motor) | hold_off];
+    write_hex2(to + 4, direction == STOPPED ? motor[END_FLAGS] : 0x03);
+    return 6 + write_place(to + 6, load_signed(motor + POSITION));
+}
+
+/* "Numbers 1 to 4 set error flag bits 0 to 3 in turn". */
+static uint8_t flag_of(uint32_t number)
+{
+    return (uint8_t)(1u << (number - 1));
+}
+
+/* "the lowest error's text (bit 3 is OTHER ERROR) or NO ERROR" */
+static const struct text *lowest_error(uint8_t flags)
+{
+    for (uint32_t number = COMMAND_ERROR; number < NG; number++)
+        if ((flags & flag_of(number)) != 0)
+            return &NUMBER_TEXTS[number];
+    return flags != 0 ? &OTHER_ERROR : &NO_ERROR;
+}
+
+static size_t answer(uint8_t *reply, const uint8_t *table, const uint8_t *motor, const struct order *order)
+{
+    uint8_t detail = order->form->detail;
+    switch (order->form->verb) {
+    case READ_PLACE:
+        return write_place(reply, load_signed(motor + detail));
+    case READ_SELECTED:
+        return write_text(reply, &SPEED_TEXTS[motor[SELECTED]]);
+    case READ_SPEED:
+        return write_digits(reply, load4(motor + speed_place(detail)), 6);
+    case READ_LS:
+        return write_ls(reply, motor[SETLS]);
+    case READ_MT:
+        return write_mt(reply, motor);
+    case READ_STATUS:
+        return write_status(reply, table, motor, order->channel);
+    case READ_ALL_REPLY:
+        return write_text(reply, &ALL_REPLY_TEXTS[table[ALL_REPLY]]);
+    case READ_FLAGS:
+        return write_hex2(reply, table[ERROR_FLAGS]);
+    default:
+        return write_text(reply, lowest_error(table[ERROR_FLAGS]));
+    }
+}
+
+/* ---- One tick ---- */
+
+static inline int64_t lesser(int64_t one, int64_t other)
+{
+    return one < other ? one : other;
+}
+
+/* One tick of a driving motor; its count, CW positive. At most 5,000 pulses are due. */
+static int32_t tick_motor(uint8_t *motor)
+{
+    uint32_t direction = motor[DIRECTION];
+    uint32_t sum = load2(motor + FRACTION) + load4(motor + SPEED_IN_FORCE);
+    int64_t room_left = room(motor, direction);
+    int64_t distance = motor[KIND] == TO_TARGET ? target_distance(motor, direction) : INT64_MAX;
+    int32_t given = (int32_t)lesser(sum / 1000, lesser(room_left, distance));
+    int32_t count = direction == CW ? given : -given;
+    store4(motor + POSITION, load4(motor + POSITION) + (uint32_t)count);
+    if (given == distance)
+        end_drive(motor, NO_END);
+    else if (given == room_left)
+        end_drive(motor, LSEND);
+    else
+        store2(motor + FRACTION, sum % 1000);
+    return count;
+}
+
+/* ---- The four calls ---- */
+
+uint32_t model_fresh(uint8_t *table, size_t table_size)
+{
+    if (table_size != TABLE_SIZE)
+        return WRONG_SIZE;
+    memset(table, 0, TABLE_SIZE);
+    for (uint32_t channel = 0; channel < MOTORS; channel++) {
+        uint8_t *motor = motor_of(table, channel);
+        store4(motor + CW_LIMIT, 1000000);
+        store4(motor + CCW_LIMIT, (uint32_t)-1000000);
+        store4(motor + HSPD, 1000);
+        store4(motor + MSPD, 800);
+        store4(motor + LSPD, 50);
+        motor[SELECTED] = SPEED_M;
+        motor[SETLS] = 0x70; /* 01110000 */
+        motor[SETMT_A] = 1;
+        motor[SETMT_B] = 1;
+    }
+    return OK;
+}
+
+uint32_t model_command(uint8_t *table, size_t table_size, const uint8_t *line, size_t line_size, uint8_t *reply,
+                       size_t reply_size)
+{
+    if (table_size != TABLE_SIZE || reply_size < REPLY_LEAST)
+        return WRONG_SIZE;
+    if (!table_sound(table))
+        return NOT_SOUND;
+    struct order order = {0};
+    uint32_t number = COMMAND_ERROR;
+    if (read_order(line, line_size, &order)) {
+        uint8_t *motor = motor_of(table, order.channel);
+        if (order.form->taken == READ)
+            return OK + 256 * (uint32_t)answer(reply, table, motor, &order);
+        number = refusal(table, motor, &order);
+        if (number == OK)
+            number = obey(table, motor, &order);
+    }
+    if (number != OK)
+        table[ERROR_FLAGS] |= flag_of(number);
+    if (table[ALL_REPLY] == 0)
+        return number;
+    return number + 256 * (uint32_t)write_text(reply, &NUMBER_TEXTS[number]);
+}
+
+uint32_t model_reading(uint8_t *table, size_t table_size, uint32_t channel, uint32_t contacts)
+{
+    if (table_size != TABLE_SIZE || channel >= MOTORS || contacts > ALL_CONTACTS)
+        return WRONG_SIZE;
+    if (!table_sound(table))
+        return NOT_SOUND;
+    uint8_t *motor = motor_of(table, channel);
+    motor[CONTACTS] = (uint8_t)contacts;
+    if (switch_ahead(motor, motor[DIRECTION]))
+        end_drive(motor, LSEND);
+    return OK;
+}
+
+uint32_t model_tick(uint8_t *table, size_t table_size, uint8_t *pulses, size_t pulses_size)
+{
+    if (table_size != TABLE_SIZE || pulses_size != PULSES_SIZE)
+        return WRONG_SIZE;
+    if (!table_sound(table))
+        return NOT_SOUND;
+    for (uint32_t channel = 0; channel < MOTORS; channel++) {
+        uint8_t *motor = motor_of(table, channel);
+        int32_t count = motor[DIRECTION] == STOPPED ? 0 : tick_motor(motor);
+        store4(pulses + 4 * channel, (uint32_t)count);
+    }
+    return OK;
+}

@@ -1,0 +1,28 @@
+/*
+ * Document 01 once more, in plain C: the sixteen-axis pulse controller, written from the document alone. It is there to
+ * be compared with the proved library call by call, and to measure the library's speed beside.
+ *
+ * The four calls take the library's buffers and answer its numbers. The host sees to it that every pointer is to as
+ * many bytes as the length beside it says and is never null, that the buffers of one call do not overlap, and that one
+ * call at a time runs on one table. All else is judged by the calls: any bytes, any lengths, any numbers.
+ */
+#ifndef MODEL_H
+#define MODEL_H
+
+#include <stddef.h>
+#include <stdint.h>
+
+/* Makes a fresh table. 0, or 5 for a table that is not 1,088 bytes. */
+uint32_t model_fresh(uint8_t *table, size_t table_size);
+
+/* Takes one command line. The number plus 256 times the length of the reply. */
+uint32_t model_command(uint8_t *table, size_t table_size, const uint8_t *line, size_t line_size, uint8_t *reply,
+                       size_t reply_size);
+
+/* Takes one reading of a channel's switches. 0, 5 or 6. */
+uint32_t model_reading(uint8_t *table, size_t table_size, uint32_t channel, uint32_t contacts);
+
+/* Takes one tick. 0, 5 or 6; at 0 the pulse buffer holds sixteen signed counts. */
+uint32_t model_tick(uint8_t *table, size_t table_size, uint8_t *pulses, size_t pulses_size);
+
+#endif
