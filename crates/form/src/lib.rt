@@ -1,7 +1,7 @@
 // The table of forms: the words (words.rt), the rows that each has (rows.rt), what follows the word of a row (tails.rt) and the
-// order that the row makes (orders.rt). What it must hold is line/specs/Forms.antt.
+// order that the row makes (making.rt). What it must hold is line/specs/Forms.antt.
 
-pub mod orders;
+pub mod making;
 pub mod rows;
 pub mod tails;
 pub mod words;

@@ -2,10 +2,10 @@
 // leaves the work to one over the slice and the number; `read_line` is for everyone else.
 
 pub mod finding;
-pub mod orders;
+pub mod matching;
 
 use crate::finding::word_at;
-use crate::orders::order_at;
+use crate::matching::order_at;
 use form::Word;
 use line::Parsed;
 ghost use mathlib.Core.Path.{_≡_};
