@@ -121,16 +121,16 @@ pub record Balanced (m : Motor) (a : Account) : Type 0 where
   pub exact : driving m ≡ true → 1000 * a .pulses + m .drive .fraction ≡ a .sum
   pub most : 1000 * a .pulses ≤ a .sum
 
--- A deed that leaves the drive and the account leaves them balanced, and so does one that ends the drive.
-same-drive : (m n : Motor) (a : Account) → n .drive ≡ m .drive → Balanced m a → Balanced n (closed n a)
-same-drive m n a e b =
-    rw e
-    (record { lasting = rw (b .lasting) (and-self (driving m)); going = b .going; speed = b .speed; exact = b .exact; most = b .most })
-
+-- A deed that ends the drive leaves the account and the motor balanced, and so does one that leaves the drive as it was.
 no-drive : (n : Motor) (a : Account) → n .drive ≡ standing → 1000 * a .pulses ≤ a .sum → Balanced n (closed n a)
 no-drive n a e h =
     rw e
     (record { lasting = and-false (a .lasts); going = λ d. absurd (false≢true d); speed = λ d. absurd (false≢true d); exact = λ d. absurd (false≢true d); most = h })
+
+same-drive : (m n : Motor) (a : Account) → n .drive ≡ m .drive → Balanced m a → Balanced n (closed n a)
+same-drive m n a e b =
+    rw e
+    (record { lasting = rw (b .lasting) (and-self (driving m)); going = b .going; speed = b .speed; exact = b .exact; most = b .most })
 
 -- No setting touches the drive.
 pub set-drive : (m : Motor) (s : Setting) → withSetting m s .drive ≡ m .drive
