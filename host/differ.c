@@ -3,6 +3,9 @@
  * copies of every buffer. After each call the results and every byte of every buffer are compared. The run follows from the
  * seed. The first difference ends it, with status 1.
  *
+ * A run begins with the tour, which has every number that a call can give (tour.c). Then calls are drawn, up to the first 5,000;
+ * then comes the sweep, every size of every buffer; and then calls are drawn to the end.
+ *
  * What is held against each of the two besides: no byte outside a lent buffer is touched, read or written (bytes of a known
  * value around it, and pages that can't be touched beside those), a line is never written, 5 and 6 write nothing, and the
  * bytes past a reply stay.
@@ -20,6 +23,7 @@
 
 #include "draw.h"
 #include "model.h"
+#include "tour.h"
 #include "urqolina.h"
 
 #ifdef MODEL_ALONE
@@ -30,8 +34,13 @@
 #endif
 
 enum { LIBRARY, MODEL, SIDES };
-enum { FRESH, COMMAND, READING, TICK, CALLS };
 enum { CANARY = 0xc5, BESIDE = 64, AREA = 8192 };
+
+/* The sweep: how many calls come before it, the sizes and numbers that it goes up to, and its calls. */
+enum { FIRST = 5000, TABLE_MOST = 2 * URQOLINA_TABLE_SIZE + 2, BUFFER_MOST = 300, CHANNEL_MOST = 39, CONTACTS_MOST = 19 };
+enum { SWEEP = 4 * TABLE_MOST + 2 + 3 * (BUFFER_MOST + 1) + 4 * (2 + CALLS) + (CHANNEL_MOST + 1) * (CONTACTS_MOST + 1) };
+/* What an episode may make more once it is to end. */
+enum { REST = 4 };
 
 static const char *const side_names[SIDES] = {"the library", "the model"};
 static const char *const call_names[CALLS] = {"fresh", "command", "reading", "tick"};
@@ -57,7 +66,15 @@ static struct {
 
 static struct draw chance;
 static uint64_t seed = 1, made, wanted = 200000;
-static uint64_t numbers[CALLS][7];
+static uint64_t numbers[CALLS][TOUR_NUMBERS];
+static bool in_tour = true;
+/* At this many calls an episode ends. */
+static uint64_t pause_at = UINT64_MAX;
+/* What the sweep has in hand. */
+static struct {
+    const char *what;
+    size_t size;
+} sweep;
 
 static uint8_t *copy_of(const struct lent *b, int side)
 {
@@ -169,7 +186,7 @@ static void compare_buffer(const struct lent *b, uint32_t number)
     if (b->size != 0 && memcmp(copy_of(b, LIBRARY), copy_of(b, MODEL), b->size) != 0)
         differs("the two differ in the ", b->name);
     look_around(b, BESIDE);
-    if (number >= 5)
+    if (number == URQOLINA_WRONG_SIZE || number == URQOLINA_NOT_SOUND)
         must_keep(b, 0, "5 or 6 and yet a byte was written by ");
 }
 
@@ -179,7 +196,7 @@ static void compare(void)
     uint32_t number = call.results[LIBRARY] & 0xff;
     if (call.results[LIBRARY] != call.results[MODEL])
         differs("the results differ", "");
-    if (number > 6 || (call.kind != COMMAND && call.results[LIBRARY] > 6))
+    if (number >= TOUR_NUMBERS || (tour_numbers[call.kind] >> number & 1u) == 0 || (call.kind != COMMAND && call.results[LIBRARY] != number))
         differs("there is no such number", "");
     for (int k = 0; k < 4; k++)
         if (is_lent(all[k]))
@@ -197,18 +214,50 @@ static void keep_before(struct lent *b)
         memcpy(b->before, copy_of(b, LIBRARY), b->size);
 }
 
+/* Which numbers any call can give. */
+static bool is_number(unsigned number)
+{
+    uint32_t all = 0;
+    for (int kind = 0; kind < CALLS; kind++)
+        all |= tour_numbers[kind];
+    return (all >> number & 1u) != 0;
+}
+
+/* Says whether every size was tried, or how far that got. */
+static void print_sweep(void)
+{
+    if (made >= FIRST + SWEEP) {
+        printf("differ: every size was tried, in calls %d to %d\n", FIRST + 1, FIRST + SWEEP);
+        return;
+    }
+    printf("differ: NOT every size was tried: that is calls %d to %d, and the run ended ", FIRST + 1, FIRST + SWEEP);
+    if (sweep.what == NULL)
+        printf("before them\n");
+    else
+        printf("with call %" PRIu64 " of those %d, at %s%zu\n", made - FIRST, SWEEP, sweep.what, sweep.size);
+}
+
 /* The last call is made: says how many gave which number, so that it can be seen what the run reached. */
 static _Noreturn void finish(void)
 {
     printf("differ: seed %" PRIu64 ", %" PRIu64 " calls, no difference; by the number given:\n%8s", seed, made, "");
-    for (int number = 0; number < 7; number++)
-        printf(" %10d", number);
+    for (unsigned number = 0; number < TOUR_NUMBERS; number++)
+        if (is_number(number))
+            printf(" %10u", number);
     for (int kind = 0; kind < CALLS; kind++) {
         printf("\n%8s", call_names[kind]);
-        for (int number = 0; number < 7; number++)
-            printf(" %10" PRIu64, numbers[kind][number]);
+        for (unsigned number = 0; number < TOUR_NUMBERS; number++)
+            if (is_number(number))
+                printf(" %10" PRIu64, numbers[kind][number]);
     }
     printf("\n");
+    if (in_tour)
+        printf("differ: NOT every number was tried: the run ended within the tour\n");
+    print_sweep();
+    if (fflush(stdout) != 0) {
+        perror("differ");
+        exit(2);
+    }
     exit(0);
 }
 
@@ -328,7 +377,7 @@ static void session(bool fresh, uint32_t most)
     lend_table(bytes, sizeof bytes);
     if (fresh)
         make_call(FRESH);
-    for (uint32_t k = 1 + draw_below(&chance, most); k > 0; k--) {
+    for (uint32_t k = 1 + draw_below(&chance, most); k > 0 && made < pause_at; k--) {
         draw_call();
         if ((call.results[LIBRARY] & 0xff) == URQOLINA_NOT_SOUND)
             differs("a table that must be sound was answered 6", "");
@@ -340,7 +389,7 @@ static void damaged(void)
 {
     static uint8_t sound[URQOLINA_TABLE_SIZE], bytes[URQOLINA_TABLE_SIZE];
     draw_sound_table(&chance, sound);
-    for (uint32_t k = 0; k < 24; k++) {
+    for (uint32_t k = 0; k < 24 && made < pause_at; k++) {
         memcpy(bytes, sound, sizeof bytes);
         uint32_t times = draw_once_in(&chance, 4) ? 2 + draw_below(&chance, 40) : 1;
         for (uint32_t n = 0; n < times; n++)
@@ -371,11 +420,14 @@ static void wrong_table_size(size_t size)
 static void every_size(void)
 {
     static uint8_t bytes[AREA];
-    for (size_t size = 0; size <= 2 * URQOLINA_TABLE_SIZE + 2; size++)
-        if (size != URQOLINA_TABLE_SIZE)
-            wrong_table_size(size);
+    sweep.what = "tables of size ";
+    for (sweep.size = 0; sweep.size <= TABLE_MOST; sweep.size++)
+        if (sweep.size != URQOLINA_TABLE_SIZE)
+            wrong_table_size(sweep.size);
     session(true, 1);
-    for (size_t size = 0; size <= 300; size++) {
+    sweep.what = "replies, pulse buffers and lines of size ";
+    for (size_t size = 0; size <= BUFFER_MOST; size++) {
+        sweep.size = size;
         lend_any(&reply, size);
         lend(&line, 5);
         fill(&line, (const uint8_t *)"STS0?");
@@ -392,7 +444,9 @@ static void every_size(void)
 static void sizes_past_32_bits(void)
 {
     static struct lent *const all[] = {&table, &line, &reply, &pulses};
+    sweep.what = "sizes past 32 bits, buffer ";
     for (int k = 0; k < 4; k++) {
+        sweep.size = (size_t)k + 1;
         session(true, 1);
         lend(&line, 5);
         fill(&line, (const uint8_t *)"STS0?");
@@ -408,8 +462,10 @@ static void sizes_past_32_bits(void)
 /* Channels and contacts about the ends of their ranges, each with each. */
 static void every_reading(void)
 {
-    for (uint32_t channel = 0; channel < 40; channel++)
-        for (uint32_t contacts = 0; contacts < 20; contacts++) {
+    sweep.what = "readings of channel ";
+    for (uint32_t channel = 0; channel <= CHANNEL_MOST; channel++)
+        for (uint32_t contacts = 0; contacts <= CONTACTS_MOST; contacts++) {
+            sweep.size = channel;
             call.channel = channel;
             call.contacts = contacts;
             make_call(READING);
@@ -422,7 +478,7 @@ static void every_byte(void)
     static uint8_t bytes[URQOLINA_TABLE_SIZE], text[DRAW_LINE_MOST];
     draw_sound_table(&chance, bytes);
     size_t size = draw_line(&chance, bytes, text), at = draw_below(&chance, (uint32_t)size);
-    for (unsigned byte = 0; byte < 256; byte++) {
+    for (unsigned byte = 0; byte < 256 && made < pause_at; byte++) {
         lend_table(bytes, sizeof bytes);
         text[at] = (uint8_t)byte;
         make_command(text, size);
@@ -444,12 +500,106 @@ static void episode(void)
         look_around(all[k], AREA);
 }
 
+/* Episodes, and at the last single calls, until so many calls have been made. */
+static void draw_until(uint64_t end)
+{
+    pause_at = end - REST;
+    while (made < pause_at)
+        episode();
+    while (made < end)
+        draw_call();
+    pause_at = UINT64_MAX;
+}
+
+static void make_sweep(void)
+{
+    every_size();
+    sizes_past_32_bits();
+    every_reading();
+    if (made != FIRST + SWEEP) {
+        printf("differ: the sweep is %" PRIu64 " calls, and SWEEP says %d\n", made - FIRST, SWEEP);
+        exit(2);
+    }
+}
+
+/* Sends a line in a reply buffer of a size. */
+static void send_line(const char *text, size_t size, size_t reply_size)
+{
+    lend(&line, size);
+    fill(&line, (const uint8_t *)text);
+    lend_any(&reply, reply_size);
+    make_call(COMMAND);
+}
+
+/* Sends the lines that stand before a step, one after the other. */
+static void send_before(const char *lines)
+{
+    while (lines != NULL && *lines != '\0') {
+        size_t size = strcspn(lines, ";");
+        send_line(lines, size, URQOLINA_REPLY_SIZE);
+        if ((call.results[LIBRARY] & 0xff) != URQOLINA_OK)
+            differs("a line before a step of the tour was refused", "");
+        lines += size + (lines[size] == ';');
+    }
+}
+
+static size_t size_off(size_t right, int by)
+{
+    return by < 0 ? right - (size_t)-by : right + (size_t)by;
+}
+
+/* Lends a step its table, fresh but for the lines before it, and makes its call. */
+static void make_step(const struct step *s)
+{
+    static uint8_t bytes[AREA];
+    draw_bytes(&chance, bytes, sizeof bytes);
+    lend_table(bytes, URQOLINA_TABLE_SIZE);
+    make_call(FRESH);
+    send_before(s->before);
+    memcpy(bytes, copy_of(&table, MODEL), URQOLINA_TABLE_SIZE);
+    /* channel 0 at -2,147,483,648, where no motor can be */
+    if (s->damaged)
+        memcpy(bytes + 64, "\0\0\0\x80", 4);
+    lend_table(bytes, size_off(URQOLINA_TABLE_SIZE, s->table));
+    lend_any(&pulses, size_off(URQOLINA_PULSES_SIZE, s->pulses));
+    call.channel = s->channel;
+    call.contacts = s->contacts;
+    if (s->kind == COMMAND)
+        send_line(s->line, strlen(s->line), size_off(URQOLINA_REPLY_SIZE, s->reply));
+    else
+        make_call(s->kind);
+    if ((call.results[LIBRARY] & 0xff) != s->number)
+        differs("a step of the tour gave another number than it is there for", "");
+}
+
+/* Every number that a call can give, each by a call that is made to give it. */
+static void make_tour(void)
+{
+    for (size_t k = 0; k < tour_size; k++)
+        make_step(&tour[k]);
+    for (int kind = 0; kind < CALLS; kind++)
+        for (unsigned number = 0; number < TOUR_NUMBERS; number++)
+            if ((tour_numbers[kind] >> number & 1u) != 0 && numbers[kind][number] == 0) {
+                printf("differ: the tour has no step for the number %u of a %s\n", number, call_names[kind]);
+                exit(2);
+            }
+    in_tour = false;
+}
+
+/* Reads a decimal number of at most 18 digits, and nothing else. */
+static bool read_number(const char *text, uint64_t *number)
+{
+    size_t size = strlen(text);
+    if (size == 0 || size > 18 || strspn(text, "0123456789") != size)
+        return false;
+    *number = strtoull(text, NULL, 10);
+    return true;
+}
+
 int main(int count, char **words)
 {
-    wanted = count > 1 ? strtoull(words[1], NULL, 10) : wanted;
-    seed = count > 2 ? strtoull(words[2], NULL, 10) : seed;
-    if (count > 3 || wanted == 0) {
-        fprintf(stderr, "usage: differ [N [SEED]]\n");
+    if (count > 3 || (count > 1 && !read_number(words[1], &wanted)) || (count > 2 && !read_number(words[2], &seed)) || wanted == 0) {
+        fprintf(stderr, "usage: differ [N [SEED]]: N from 1, SEED from 0, of at most 18 digits\n");
         return 2;
     }
     chance.state = seed;
@@ -459,10 +609,9 @@ int main(int count, char **words)
     make_areas(&line);
     make_areas(&reply);
     make_areas(&pulses);
-    lend(&pulses, 64);
-    every_size();
-    sizes_past_32_bits();
-    every_reading();
+    make_tour();
+    draw_until(FIRST);
+    make_sweep();
     for (;;)
         episode();
 }

@@ -1,0 +1,58 @@
+/*
+ * The steps of the tour: for each number of each kind of call, and for each cause that document 01 has for it, a call that gives
+ * it. differ ends a run in which a number of tour_numbers has no step, so a number that is added there needs one here.
+ */
+#include "tour.h"
+
+#define NUMBER(n) (UINT32_C(1) << (n))
+
+const uint32_t tour_numbers[CALLS] = {
+    [FRESH] = NUMBER(0) | NUMBER(5),
+    [COMMAND] = NUMBER(0) | NUMBER(1) | NUMBER(2) | NUMBER(3) | NUMBER(4) | NUMBER(5) | NUMBER(6),
+    [READING] = NUMBER(0) | NUMBER(5) | NUMBER(6),
+    [TICK] = NUMBER(0) | NUMBER(5) | NUMBER(6),
+};
+
+const struct step tour[] = {
+    {.kind = FRESH, .number = 0},
+    {.kind = FRESH, .number = 5, .table = -1},
+    {.kind = FRESH, .number = 5, .table = 1},
+
+    {.kind = COMMAND, .number = 0, .line = "STS0?"},
+    {.kind = COMMAND, .number = 0, .before = "REM", .line = "ABS0+100"},
+    /* no form, and over 80 bytes */
+    {.kind = COMMAND, .number = 1, .line = "ABS0+10z"},
+    {.kind = COMMAND, .number = 1, .before = "REM",
+     .line = "SPDM0000000000000000000000000000000000000000000000000000000000000000000000000000800"},
+    /* a start, a setting and a selection of a driving channel */
+    {.kind = COMMAND, .number = 2, .before = "REM;SCANP0", .line = "SCANP0"},
+    {.kind = COMMAND, .number = 2, .before = "REM;SCANP0", .line = "PS0+1"},
+    {.kind = COMMAND, .number = 2, .before = "REM;SCANP0", .line = "SPDH0"},
+    /* a value out of its range, and a target */
+    {.kind = COMMAND, .number = 3, .before = "REM", .line = "SPDM05000001"},
+    {.kind = COMMAND, .number = 3, .before = "REM;PS0+2147483647", .line = "REL0+1"},
+    /* local mode, A = 0, an active enabled switch ahead, no room, SPC on a stopped motor */
+    {.kind = COMMAND, .number = 4, .line = "SCANP0"},
+    {.kind = COMMAND, .number = 4, .before = "REM;SETMT00100", .line = "SCANP0"},
+    {.kind = COMMAND, .number = 4, .before = "REM;SETLS001110001", .line = "SCANP0"},
+    {.kind = COMMAND, .number = 4, .before = "REM;PS0+2147483647", .line = "SCANP0"},
+    {.kind = COMMAND, .number = 4, .before = "REM;SETLS011110000;FL0+0", .line = "SCANP0"},
+    {.kind = COMMAND, .number = 4, .before = "REM", .line = "SPC0400"},
+    {.kind = COMMAND, .number = 5, .line = "REM", .table = -1},
+    {.kind = COMMAND, .number = 5, .line = "REM", .reply = -1},
+    {.kind = COMMAND, .number = 6, .line = "REM", .damaged = true},
+
+    {.kind = READING, .number = 0, .channel = 15, .contacts = 7},
+    {.kind = READING, .number = 5, .table = 1},
+    {.kind = READING, .number = 5, .channel = 16},
+    {.kind = READING, .number = 5, .contacts = 8},
+    {.kind = READING, .number = 6, .damaged = true},
+
+    {.kind = TICK, .number = 0, .before = "REM;SCANP0"},
+    {.kind = TICK, .number = 5, .table = -1},
+    {.kind = TICK, .number = 5, .pulses = -1},
+    {.kind = TICK, .number = 5, .pulses = 1},
+    {.kind = TICK, .number = 6, .damaged = true},
+};
+
+const size_t tour_size = sizeof tour / sizeof tour[0];

@@ -1,0 +1,33 @@
+/*
+ * The tour: what a run of differ begins with, so that every run, however short, has had each number that a call can give.
+ */
+#ifndef TOUR_H
+#define TOUR_H
+
+#include <stdbool.h>
+#include <stddef.h>
+#include <stdint.h>
+
+enum { FRESH, COMMAND, READING, TICK, CALLS };
+
+/* A number is below this. */
+#define TOUR_NUMBERS 32u
+
+/* The numbers that each kind of call can give, number n as bit n. Another one is taken for a fault of the call. */
+extern const uint32_t tour_numbers[CALLS];
+
+/* A call that gives a number: from a fresh table, the lines that are sent before it, and what it is lent. */
+struct step {
+    int kind;
+    uint32_t number;
+    const char *before; /* with ; between them; each is accepted */
+    const char *line; /* of a command */
+    uint32_t channel, contacts; /* of a reading */
+    int table, reply, pulses; /* by how much the size of a buffer is off */
+    bool damaged; /* whether the table is not sound */
+};
+
+extern const struct step tour[];
+extern const size_t tour_size;
+
+#endif

@@ -1,0 +1,55 @@
+#!/bin/sh
+# How a tree is built: once, while others wait; what is said meanwhile; and that a build which is broken off blocks nobody.
+. "$(dirname "$0")/tree"
+
+WAIT=0.3 must_run_ten 'an unbuilt tree'
+must_have_built 1 'ten runs of an unbuilt tree'
+
+# The stand-in says nothing for more than a second; the first line must be there after one.
+rm -r "$tree/target"
+WAIT=1.2 "$tree/bench" "$script" >"$room/out" 2>"$room/err" &
+sleep 1
+grep -q '^bench: proving .* 20 crates.*some minutes' "$room/err" || fail "after a second it has said: $(cat "$room/err")"
+wait
+cat >"$room/said" <<'END'
+bench: crate 1 of 20: digits proved (1.2 s)
+bench: crate 2 of 20: text proved (1.2 s)
+bench: crate 3 of 20: bench proved (1.2 s)
+END
+sed 1d "$room/err" | cmp -s - "$room/said" || fail "without a terminal it has said: $(cat "$room/err")"
+
+# On a terminal, one line is written over and over.
+if command -v script >/dev/null; then
+    rm -r "$tree/target"
+    TERM=vt100 script -qec "$tree/bench $script" /dev/null </dev/null >"$room/seen"
+    tr '\r' '\n' <"$room/seen" | grep -q '^.*bench: crate 3 of 20' || fail "on a terminal it does not say how far it is"
+    [ "$(grep -c 'bench: crate' "$room/seen")" = 1 ] || fail "on a terminal it takes more than one line"
+fi
+
+# Broken off: by Ctrl-C, which is an interrupt, by being ended, and by being killed, when it can clean up nothing. All that it
+# has started ends too, and the next run builds.
+for signal in INT TERM KILL; do
+    rm -r "$tree/target"
+    : >"$calls"
+    WAIT=50 timeout -k 5 -s $signal 0.7 env --default-signal=INT "$tree/bench" "$script" >"$room/out" 2>"$room/err" && fail "$signal did not end it"
+    must_have_built 1 "broken off by $signal"
+    began=$(date +%s)
+    must_run "after one that $signal broke off"
+    must_have_built 2 "after one that $signal broke off"
+    [ $(($(date +%s) - began)) -lt 10 ] || fail "after $signal the next run waited too long"
+done
+
+# A build that fails says why, and those that have waited for it fail with it.
+touch "$tree/crates.txt"
+: >"$calls"
+export OUTCOME=fails WAIT=0.3
+run_ten
+must_have_built 1 'a build that fails, with nine that wait'
+for k in 0 1 2 3 4 5 6 7 8 9; do
+    [ "$(cat "$room/status.$k")" = 1 ] || fail "where the build fails, one of ten ended with status $(cat "$room/status.$k")"
+    grep -q 'rt: bench NOT PROVED' "$room/err.$k" || fail "where the build fails, one of ten does not say so: $(cat "$room/err.$k")"
+    [ ! -s "$room/out.$k" ] || fail 'where the build fails, something was run'
+done
+OUTCOME=proves WAIT=0
+must_run 'after a build that failed'
+must_have_built 2 'after a build that failed'

@@ -1,0 +1,81 @@
+# What ./bench, ./test and host/run know of the tree: where the kit is, what is newer than what, and how one run builds while the
+# others wait. They read this file with root set to the repository's folder, and who to the name that messages begin with.
+#
+# Two rt that prove in one tree spoil each other's work, so whoever starts one holds the tree. The lock lies on crates.txt, which
+# no build removes, and is handed down to all that the build starts: the kernel lets it go with the last of them, however it ends.
+
+say() { printf '%s: %s\n' "$who" "$*" >&2; }
+
+need() { # COMMAND WHAT
+    command -v "$1" >/dev/null 2>&1 || { say "there is no $1 on the path: $2"; exit 2; }
+}
+
+# Sets home, the kit's folder, by the path of its guide, which rt doc prints.
+find_kit() {
+    need rt "it is the command of the Rattle kit, the prover and compiler; this repository was proved with $(cat "$root/kit.txt")"
+    guide=$(rt doc) && home=$(cd "$(dirname "$guide")/.." && pwd -P) || { say 'rt doc does not tell where the kit is'; exit 2; }
+}
+
+# Whether a file is there, and no file or folder that is proved, nor the kit, is newer. What can't be looked at counts as newer.
+is_newest() { # FILE
+    [ -f "$1" ] && [ -z "$(find "$root/crates" "$root/crates.txt" "$home/KIT-ID" -newer "$1" 2>&1 | head -n 1)" ]
+}
+
+# How many crates are proved for one of crates.txt, itself among them.
+crates_for() { # NAME
+    awk -v name="$1" '
+        function visit(n, below, k, count) {
+            if (n in seen || !(n in list)) return 0
+            seen[n] = count = 1
+            for (k = split(list[n], below, " "); k > 0; k--) count += visit(below[k])
+            return count
+        }
+        { sub(/#.*/, ""); at = index($0, ":") }
+        at { n = substr($0, 1, at - 1); gsub(/[ \t]/, "", n); list[n] = substr($0, at + 1) }
+        END { print visit(name) }' "$root/crates.txt"
+}
+
+# Holds the tree, and waits for whoever holds it.
+hold_tree() {
+    need flock 'the package util-linux has it'
+    [ -w "$root/crates.txt" ] || { say "nothing is built yet, and $root can't be written"; exit 2; }
+    exec 9<>"$root/crates.txt"
+    waited=no
+    flock -n 9 && return
+    waited=yes
+    say 'another run is building in this tree; waiting for it'
+    flock 9 || exit 2
+}
+
+release_tree() { exec 9>&-; }
+
+# Ends this run, and a build with all that it has started.
+stop_building() { # STATUS
+    kill -s TERM -- "-$builder" 2>/dev/null
+    exit "$1"
+}
+
+not_built() { # LOG
+    cat "$1" >&2
+    say 'it could not be built'
+    exit 1
+}
+
+# Runs rt with these words for a crate, in a session of its own, and says how far it is. Where it fails, the run ends with what it
+# said, and so do those that have waited for it. LOG.began gets the time of the beginning: what changes later is newer.
+prove() { # CRATE LOG WORDS..
+    count=$(crates_for "$1") log=$2
+    shift 2
+    need setsid 'the package util-linux has it'
+    [ "$waited" = no ] || [ ! -e "$log.failed" ] || not_built "$log"
+    mkdir -p "$(dirname "$log")" && rm -f "$log.failed" && : >"$log.began" || exit 2
+    say "proving what it is built from, $count crates; from nothing this takes some minutes"
+    [ "$(rt version)" = "$(cat "$root/kit.txt")" ] || say "the kit here is $(rt version); this repository was proved with $(cat "$root/kit.txt")"
+    setsid "$root/tools/prove" "$who" "$log" "$count" "$@" &
+    builder=$!
+    trap 'stop_building 129' HUP
+    trap 'stop_building 130' INT
+    trap 'stop_building 143' TERM
+    wait "$builder" || { : >"$log.failed"; not_built "$log"; }
+    trap - HUP INT TERM
+}
