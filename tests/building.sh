@@ -39,6 +39,19 @@ for signal in INT TERM KILL; do
     [ $(($(date +%s) - began)) -lt 10 ] || fail "after $signal the next run waited too long"
 done
 
+# Killed, and its parent takes no notice, so that it is dead and not gone.
+rm -r "$tree/target"
+: >"$calls"
+WAIT=50 sh -c '"$1" "$2" >"$3/out" 2>"$3/err" & echo $! >"$3/pid"; exec sleep 20' sh "$tree/bench" "$script" "$room" &
+holder=$!
+while [ "$(built_times)" = 0 ]; do sleep 0.1; done
+kill -s KILL "$(cat "$room/pid")"
+began=$(date +%s)
+must_run 'after one that was killed'
+must_have_built 2 'after one that was killed'
+[ $(($(date +%s) - began)) -lt 10 ] || fail 'after one that was killed the next run waited too long'
+kill "$holder"
+
 # A build that fails says why, and those that have waited for it fail with it.
 touch "$tree/crates.txt"
 : >"$calls"

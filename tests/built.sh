@@ -23,6 +23,8 @@ must_build() { # WHAT
 }
 touch "$tree/crates/line/src/lib.rt"
 must_build 'a newer source'
+touch "$tree/crates/line/src/lib.rt"
+OUTCOME=unchanged must_build 'a newer source with the same bytes'
 rm "$tree/crates/line/must-fail"/*.edit
 must_build 'a folder from which something has gone'
 touch "$tree/crates.txt"

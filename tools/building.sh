@@ -38,7 +38,7 @@ crates_for() { # NAME
 # Holds the tree, and waits for whoever holds it.
 hold_tree() {
     need flock 'the package util-linux has it'
-    [ -w "$root/crates.txt" ] || { say "nothing is built yet, and $root can't be written"; exit 2; }
+    [ -w "$root/crates.txt" ] || { say "this is not built, and $root can't be written: whoever may write it has to run this first"; exit 2; }
     exec 9<>"$root/crates.txt"
     waited=no
     flock -n 9 && return
@@ -49,20 +49,15 @@ hold_tree() {
 
 release_tree() { exec 9>&-; }
 
-# Ends this run, and a build with all that it has started.
-stop_building() { # STATUS
-    kill -s TERM -- "-$builder" 2>/dev/null
-    exit "$1"
-}
-
 not_built() { # LOG
     cat "$1" >&2
     say 'it could not be built'
     exit 1
 }
 
-# Runs rt with these words for a crate, in a session of its own, and says how far it is. Where it fails, the run ends with what it
-# said, and so do those that have waited for it. LOG.began gets the time of the beginning: what changes later is newer.
+# Runs rt with these words for a crate, and says how far it is. Where it fails, the run ends with what it said, and so do those
+# that have waited for it. Where this run is broken off, tools/prove sees it and ends what it has started. LOG.began gets the time
+# of the beginning: what changes while it proves is newer.
 prove() { # CRATE LOG WORDS..
     count=$(crates_for "$1") log=$2
     shift 2
@@ -72,10 +67,5 @@ prove() { # CRATE LOG WORDS..
     say "proving what it is built from, $count crates; from nothing this takes some minutes"
     [ "$(rt version)" = "$(cat "$root/kit.txt")" ] || say "the kit here is $(rt version); this repository was proved with $(cat "$root/kit.txt")"
     setsid "$root/tools/prove" "$who" "$log" "$count" "$@" &
-    builder=$!
-    trap 'stop_building 129' HUP
-    trap 'stop_building 130' INT
-    trap 'stop_building 143' TERM
-    wait "$builder" || { : >"$log.failed"; not_built "$log"; }
-    trap - HUP INT TERM
+    wait $! || { : >"$log.failed"; not_built "$log"; }
 }
