@@ -2,6 +2,9 @@
 # How a tree is built: once, while others wait; what is said meanwhile; and that a build which is broken off blocks nobody.
 . "$(dirname "$0")/tree"
 
+# As many crates as the stand-in tells of, and one that bench does not need.
+printf '# two below it\ndigits:\ntext: digits\nlaws: text\nbench: io text digits\n' >"$tree/crates.txt"
+
 WAIT=0.3 must_run_ten 'an unbuilt tree'
 must_have_built 1 'ten runs of an unbuilt tree'
 
@@ -9,12 +12,12 @@ must_have_built 1 'ten runs of an unbuilt tree'
 rm -r "$tree/target"
 WAIT=1.2 "$tree/bench" "$script" >"$room/out" 2>"$room/err" &
 sleep 1
-grep -q '^bench: proving .* 20 crates.*some minutes' "$room/err" || fail "after a second it has said: $(cat "$room/err")"
+grep -q '^bench: proving .* 3 crates.*some minutes' "$room/err" || fail "after a second it has said: $(cat "$room/err")"
 wait
 cat >"$room/said" <<'END'
-bench: crate 1 of 20: digits proved (1.2 s)
-bench: crate 2 of 20: text proved (1.2 s)
-bench: crate 3 of 20: bench proved (1.2 s)
+bench: crate 1 of 3: digits proved (1.2 s)
+bench: crate 2 of 3: text proved (1.2 s)
+bench: crate 3 of 3: bench proved (1.2 s)
 END
 sed 1d "$room/err" | cmp -s - "$room/said" || fail "without a terminal it has said: $(cat "$room/err")"
 
@@ -22,7 +25,7 @@ sed 1d "$room/err" | cmp -s - "$room/said" || fail "without a terminal it has sa
 if command -v script >/dev/null; then
     rm -r "$tree/target"
     TERM=vt100 script -qec "$tree/bench $script" /dev/null </dev/null >"$room/seen"
-    tr '\r' '\n' <"$room/seen" | grep -q '^.*bench: crate 3 of 20' || fail "on a terminal it does not say how far it is"
+    tr '\r' '\n' <"$room/seen" | grep -q '^.*bench: crate 3 of 3' || fail "on a terminal it does not say how far it is"
     [ "$(grep -c 'bench: crate' "$room/seen")" = 1 ] || fail "on a terminal it takes more than one line"
 fi
 
@@ -31,7 +34,7 @@ fi
 for signal in INT TERM KILL; do
     rm -r "$tree/target"
     : >"$calls"
-    WAIT=50 timeout -k 5 -s $signal 0.7 env --default-signal=INT "$tree/bench" "$script" >"$room/out" 2>"$room/err" && fail "$signal did not end it"
+    WAIT=50 timeout -k 5 -s $signal 1.5 env --default-signal=INT "$tree/bench" "$script" >"$room/out" 2>"$room/err" && fail "$signal did not end it"
     must_have_built 1 "broken off by $signal"
     began=$(date +%s)
     must_run "after one that $signal broke off"

@@ -12,7 +12,7 @@ need() { # COMMAND WHAT
 
 # Sets home, the kit's folder, by the path of its guide, which rt doc prints.
 find_kit() {
-    need rt "it is the command of the Rattle kit, the prover and compiler; this repository was proved with $(cat "$root/kit.txt")"
+    need rt "it is the command of the Rattle kit, the prover and compiler of the language that this is written in. It was proved with $(cat "$root/kit.txt")"
     guide=$(rt doc) && home=$(cd "$(dirname "$guide")/.." && pwd -P) || { say 'rt doc does not tell where the kit is'; exit 2; }
 }
 
