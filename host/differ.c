@@ -214,7 +214,7 @@ static void keep_before(struct lent *b)
         memcpy(b->before, copy_of(b, LIBRARY), b->size);
 }
 
-/* Which numbers any call can give. */
+/* Whether some call can give a number. */
 static bool is_number(unsigned number)
 {
     uint32_t all = 0;
@@ -421,9 +421,11 @@ static void every_size(void)
 {
     static uint8_t bytes[AREA];
     sweep.what = "tables of size ";
-    for (sweep.size = 0; sweep.size <= TABLE_MOST; sweep.size++)
-        if (sweep.size != URQOLINA_TABLE_SIZE)
-            wrong_table_size(sweep.size);
+    for (size_t size = 0; size <= TABLE_MOST; size++)
+        if (size != URQOLINA_TABLE_SIZE) {
+            sweep.size = size;
+            wrong_table_size(size);
+        }
     session(true, 1);
     sweep.what = "replies, pulse buffers and lines of size ";
     for (size_t size = 0; size <= BUFFER_MOST; size++) {

@@ -27,6 +27,10 @@ yes 'C REM' | head -n 100000 >"$room/much.txt"
 printf '0 -\n' | cmp -s - "$room/out" || fail 'head -n 1 did not get the first line'
 [ ! -s "$room/err" ] || fail "with head -n 1 it said: $(cat "$room/err")"
 [ "$(cat "$room/status")" = 141 ] || fail "with head -n 1 it ended with status $(cat "$room/status")"
+# The same where a closed pipe ends no process, but only fails the write.
+(trap '' PIPE; "$tree/bench" "$room/much.txt" 2>"$room/err") | head -n 1 >"$room/out"
+printf '0 -\n' | cmp -s - "$room/out" || fail 'head -n 1 did not get the first line where SIGPIPE is ignored'
+[ ! -s "$room/err" ] || fail "with head -n 1, where SIGPIPE is ignored, it said: $(cat "$room/err")"
 "$tree/bench" "$room/much.txt" | wc -l | grep -q '^ *100000$' || fail 'lines were lost'
 
 # The output fails, or the program is killed, while the input goes on: it ends, and does not wait for more.
