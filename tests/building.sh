@@ -66,6 +66,20 @@ for k in 0 1 2 3 4 5 6 7 8 9; do
     grep -q 'rt: bench NOT PROVED' "$room/err.$k" || fail "where the build fails, one of ten does not say so: $(cat "$room/err.$k")"
     [ ! -s "$room/out.$k" ] || fail 'where the build fails, something was run'
 done
+# That is no failure of a later build: here another holds the tree for a while, and then it is built.
+flock "$tree/crates.txt" sleep 0.5 &
+sleep 0.1
 OUTCOME=proves WAIT=0
 must_run 'after a build that failed'
 must_have_built 2 'after a build that failed'
+
+# rt itself is killed: what it has started is not waited for.
+touch "$tree/crates.txt"
+: >"$calls"
+: >"$room/status"
+{ WAIT=50 "$tree/bench" "$script" >"$room/out" 2>"$room/err"; echo $? >"$room/status"; } &
+must_come "$calls" 'rt was not called'
+kill -s KILL "$(cat "$calls.pid")"
+must_come "$room/status" 'rt was killed, and the build goes on'
+[ "$(cat "$room/status")" = 1 ] && grep -q 'could not be built' "$room/err" || fail "rt was killed, and it said: $(cat "$room/err")"
+must_run 'after rt was killed'

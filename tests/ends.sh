@@ -16,6 +16,9 @@ must_say $? 1 'No space left'
 must_say $? 1 'output is closed'
 "$tree/bench" <&- >"$room/out" 2>"$room/err"
 must_say $? 1 'input is closed'
+"$tree/bench" "$script" 2>&- | cmp -s - "$expected" || fail 'with standard error closed it printed something else'
+"$tree/bench" /proc/self/mem >"$room/out" 2>"$room/err"
+must_say $? 1 'Input/output error'
 "$tree/bench" <"$tree" >"$room/out" 2>"$room/err"
 must_say $? 1 'Is a directory'
 "$tree/bench" "$tree" >"$room/out" 2>"$room/err"
@@ -33,22 +36,28 @@ printf '0 -\n' | cmp -s - "$room/out" || fail 'head -n 1 did not get the first l
 [ ! -s "$room/err" ] || fail "with head -n 1, where SIGPIPE is ignored, it said: $(cat "$room/err")"
 "$tree/bench" "$room/much.txt" | wc -l | grep -q '^ *100000$' || fail 'lines were lost'
 
-# The output fails, or the program is killed, while the input goes on: it ends, and does not wait for more.
-must_end() { # WHAT
-    for tenth in 1 2 3 4 5 6 7 8 9 10 11 12 13 14 15 16 17 18 19 20; do
-        [ ! -s "$room/status" ] || return 0
-        sleep 0.1
-    done
-    fail "$1, and it goes on"
-}
-mkfifo "$room/input"
+# The output fails, the run or the program is killed, while the input goes on: it ends, and does not wait for more.
+mkfifo "$room/input" "$room/output"
 sleep 20 >"$room/input" &
 holder=$!
 : >"$room/status"
 { "$tree/bench" <"$room/input" >/dev/full 2>"$room/err"; echo $? >"$room/status"; } &
 echo 'C REM' >"$room/input"
-must_end 'the output has failed'
+must_come "$room/status" 'the output has failed, and it goes on'
 must_say "$(cat "$room/status")" 1 'No space left'
+
+# What it prints ends when nothing of the run is left that could print more.
+for signal in TERM KILL; do
+    : >"$room/status"
+    : >"$room/out"
+    { cat >"$room/out"; echo over >"$room/status"; } <"$room/output" &
+    "$tree/bench" <"$room/input" >"$room/output" 2>"$room/err" &
+    running=$!
+    echo 'C REM' >"$room/input"
+    must_come "$room/out" 'nothing was printed'
+    kill -s $signal $running
+    must_come "$room/status" "the run was ended by $signal, and something of it goes on"
+done
 
 # A loader that ends by a signal, in place of the kit's.
 mkdir -p "$room/kit/docs" "$room/kit/on/$(uname -m)/toolchain/lib" && : >"$room/kit/KIT-ID"
@@ -59,7 +68,7 @@ chmod +x "$room/other-rt" "$room/kit/on/$(uname -m)/toolchain/lib/ld-linux-x86-6
 : >"$room/status"
 { REAL=$room/other-rt "$tree/bench" <"$room/input" >"$room/out" 2>"$room/err"; echo $? >"$room/status"; } &
 echo 'C REM' >"$room/input"
-must_end 'a signal has ended the program'
+must_come "$room/status" 'a signal has ended the program, and it goes on'
 must_say "$(cat "$room/status")" 139 'signal 11'
 kill "$holder"
 must_have_built 1 'all of this'

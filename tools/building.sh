@@ -35,19 +35,30 @@ crates_for() { # NAME
         END { print visit(name) }' "$root/crates.txt"
 }
 
+# A pipe of which only this process keeps the writing end, as 8: what it starts closes that for good, by exec, since a shell keeps
+# a copy of what is closed for one command. Whoever reads it, as 6, sees its end when this process is gone, killed perhaps. Nothing
+# of it stays in the file system.
+open_leash() {
+    [ -z "${leash:-}" ] || return 0
+    leash=$(mktemp -d) && mkfifo "$leash/pipe" && exec 8<>"$leash/pipe" 6<"$leash/pipe" && rm -r "$leash"
+}
+
+cannot_write() { say "this is not built, and $1 can't be written: whoever may write it has to run this first"; exit 2; }
+
 # Holds the tree, and waits for whoever holds it.
 hold_tree() {
     need flock 'the package util-linux has it'
-    [ -w "$root/crates.txt" ] || { say "this is not built, and $root can't be written: whoever may write it has to run this first"; exit 2; }
+    [ -w "$root/crates.txt" ] || cannot_write "$root"
     exec 9<>"$root/crates.txt"
-    waited=no
     flock -n 9 && return
-    waited=yes
     say 'another run is building in this tree; waiting for it'
     flock 9 || exit 2
 }
 
 release_tree() { exec 9>&-; }
+
+# Which failure a log is of: each has a text of its own.
+failure_of() { cat "$1.failed" 2>/dev/null; } # LOG
 
 not_built() { # LOG
     cat "$1" >&2
@@ -55,17 +66,29 @@ not_built() { # LOG
     exit 1
 }
 
-# Runs rt with these words for a crate, and says how far it is. Where it fails, the run ends with what it said, and so do those
-# that have waited for it. Where this run is broken off, tools/prove sees it and ends what it has started. LOG.began gets the time
-# of the beginning: what changes while it proves is newer.
+# Runs rt with these words for a crate, and says how far it is. Where it fails, the run ends with what it said. Where this run is
+# broken off, tools/prove sees it and ends what it has started. LOG.began gets the time of the beginning: what changes while it
+# proves is newer.
 prove() { # CRATE LOG WORDS..
     count=$(crates_for "$1") log=$2
     shift 2
     need setsid 'the package util-linux has it'
-    [ "$waited" = no ] || [ ! -e "$log.failed" ] || not_built "$log"
-    mkdir -p "$(dirname "$log")" && rm -f "$log.failed" && : >"$log.began" || exit 2
+    { mkdir -p "$(dirname "$log")" && rm -f "$log.failed" && touch "$log.began"; } 2>/dev/null || cannot_write "$(dirname "$log")"
     say "proving what it is built from, $count crates; from nothing this takes some minutes"
     [ "$(rt version)" = "$(cat "$root/kit.txt")" ] || say "the kit here is $(rt version); this repository was proved with $(cat "$root/kit.txt")"
-    setsid "$root/tools/prove" "$who" "$log" "$count" "$@" &
-    wait $! || { : >"$log.failed"; not_built "$log"; }
+    open_leash || exit 2
+    setsid "$root/tools/prove" "$who" "$log" "$count" "$@" 8>&- &
+    wait $! || { echo "$$ $(date)" >"$log.failed"; not_built "$log"; }
+}
+
+# Holds the tree while one thing is built in it, unless it is built by then. A run that has waited for a build of it that failed
+# fails with that: it would only fail again.
+build_once() { # IS_BUILT BUILD LOG
+    before=$(failure_of "$3")
+    hold_tree
+    if ! "$1"; then
+        [ "$(failure_of "$3")" = "$before" ] || [ -z "$(failure_of "$3")" ] || not_built "$3"
+        "$2"
+    fi
+    release_tree
 }
