@@ -5,21 +5,22 @@
 # As many crates as the stand-in tells of, and one that bench does not need.
 printf '# two below it\ndigits:\ntext: digits\nlaws: text\nbench: io text digits\n' >"$tree/crates.txt"
 
-WAIT=0.3 must_run_ten 'an unbuilt tree'
+GO=$room/go
+must_run_ten 'an unbuilt tree'
 must_have_built 1 'ten runs of an unbuilt tree'
+GO=''
 
-# The stand-in says nothing for more than a second; the first line must be there after one.
+# The first line is there before rt is called, and so before anything takes long.
 rm -r "$tree/target"
-WAIT=1.2 "$tree/bench" "$script" >"$room/out" 2>"$room/err" &
-sleep 1
-grep -q '^bench: proving .* 3 crates.*some minutes' "$room/err" || fail "after a second it has said: $(cat "$room/err")"
-wait
+"$tree/bench" "$script" >"$room/out" 2>"$calls.err" || fail "an unbuilt tree: it ended with status $?"
+cmp -s "$room/out" "$expected" || fail 'an unbuilt tree: it printed something else'
+grep -q '^bench: proving .* 3 crates.*some minutes' "$calls.said" || fail "before rt was called it had said: $(cat "$calls.said")"
 cat >"$room/said" <<'END'
-bench: crate 1 of 3: digits proved (1.2 s)
-bench: crate 2 of 3: text proved (1.2 s)
-bench: crate 3 of 3: bench proved (1.2 s)
+bench: crate 1 of 3: digits proved (0 s)
+bench: crate 2 of 3: text proved (0 s)
+bench: crate 3 of 3: bench proved (0 s)
 END
-sed 1d "$room/err" | cmp -s - "$room/said" || fail "without a terminal it has said: $(cat "$room/err")"
+sed 1d "$calls.err" | cmp -s - "$room/said" || fail "without a terminal it has said: $(cat "$calls.err")"
 
 # On a terminal, one line is written over and over.
 if command -v script >/dev/null; then
@@ -34,31 +35,33 @@ fi
 for signal in INT TERM KILL; do
     rm -r "$tree/target"
     : >"$calls"
-    WAIT=50 timeout -k 5 -s $signal 1.5 env --default-signal=INT "$tree/bench" "$script" >"$room/out" 2>"$room/err" && fail "$signal did not end it"
-    must_have_built 1 "broken off by $signal"
+    WAIT=50 env --default-signal=INT "$tree/bench" "$script" >"$room/out" 2>"$room/err" &
+    must_come "$calls" 'rt was not called'
+    kill -s $signal $!
     began=$(date +%s)
     must_run "after one that $signal broke off"
     must_have_built 2 "after one that $signal broke off"
-    [ $(($(date +%s) - began)) -lt 10 ] || fail "after $signal the next run waited too long"
+    [ $(($(date +%s) - began)) -lt 40 ] || fail "after $signal the next run waited too long"
 done
 
 # Killed, and its parent takes no notice, so that it is dead and not gone.
 rm -r "$tree/target"
 : >"$calls"
-WAIT=50 sh -c '"$1" "$2" >"$3/out" 2>"$3/err" & echo $! >"$3/pid"; exec sleep 20' sh "$tree/bench" "$script" "$room" &
+WAIT=50 sh -c '"$1" "$2" >"$3/out" 2>"$3/err" & echo $! >"$3/pid"; exec sleep 100' sh "$tree/bench" "$script" "$room" &
 holder=$!
-while [ "$(built_times)" = 0 ]; do sleep 0.1; done
+must_come "$calls" 'rt was not called'
 kill -s KILL "$(cat "$room/pid")"
 began=$(date +%s)
 must_run 'after one that was killed'
 must_have_built 2 'after one that was killed'
-[ $(($(date +%s) - began)) -lt 10 ] || fail 'after one that was killed the next run waited too long'
+[ $(($(date +%s) - began)) -lt 40 ] || fail 'after one that was killed the next run waited too long'
 kill "$holder"
 
 # A build that fails says why, and those that have waited for it fail with it.
 touch "$tree/crates.txt"
 : >"$calls"
-export OUTCOME=fails WAIT=0.3
+rm "$room/go"
+OUTCOME=fails GO=$room/go
 run_ten
 must_have_built 1 'a build that fails, with nine that wait'
 for k in 0 1 2 3 4 5 6 7 8 9; do
@@ -69,7 +72,7 @@ done
 # That is no failure of a later build: here another holds the tree for a while, and then it is built.
 flock "$tree/crates.txt" sleep 0.5 &
 sleep 0.1
-OUTCOME=proves WAIT=0
+OUTCOME=proves GO=''
 must_run 'after a build that failed'
 must_have_built 2 'after a build that failed'
 

@@ -38,7 +38,7 @@ printf '0 -\n' | cmp -s - "$room/out" || fail 'head -n 1 did not get the first l
 
 # The output fails, the run or the program is killed, while the input goes on: it ends, and does not wait for more.
 mkfifo "$room/input" "$room/output"
-sleep 20 >"$room/input" &
+sleep 100 >"$room/input" &
 holder=$!
 : >"$room/status"
 { "$tree/bench" <"$room/input" >/dev/full 2>"$room/err"; echo $? >"$room/status"; } &
