@@ -18,7 +18,7 @@ use Rattle.urqolina.specs.Calls.{freshCall}
 use Rattle.laws.specs.Computing.{computing-laws}
 use Rattle.laws.specs.Sequences.{Call, command, reading, tick, urqolina, ran, never}
 use Rattle.laws.specs.Deeds.{names, starts, stops, speeds, sets, reads, ticks, rests, deedTaken, deed, ticksIn}
-use Rattle.laws.specs.Ledger.{countAt, cwPulses, ccwPulses, Account, noDrive, noTravel, moving}
+use Rattle.laws.specs.Ledger.{countAt, cwPulses, ccwPulses, Account, noDrive, noTravel, travelled}
 use Rattle.laws.specs.Numbers.{asks}
 use Rattle.laws.specs.Neighbours.{ofHead}
 use Rattle.laws.specs.ReadBack.{textFor, topic, changedBy, changes, modeOrder, replyOrder, isSome, changesMode, changesReply}
@@ -110,8 +110,8 @@ way = refl
 
 -- A tick adds its CW pulses to those before it, and a start adds none.
 way-on :
-    (moving 7 (record { preset = origin; cw = 5; ccw = 2 }) ticks ≡ record { preset = origin; cw = 12; ccw = 2 })
-    × (moving 7 noTravel (starts (Scan cw)) ≡ noTravel)
+    (travelled 7 (record { preset = origin; cw = 5; ccw = 2 }) ticks ≡ record { preset = origin; cw = 12; ccw = 2 })
+    × (travelled 7 noTravel (starts (Scan cw)) ≡ noTravel)
 unfolding computing-laws
 way-on = (refl, refl)
 

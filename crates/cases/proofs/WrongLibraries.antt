@@ -17,7 +17,7 @@ use Rattle.text.specs.Text.{bytes, same}
 use Rattle.record.specs.declared.Wiring.{Wiring}
 use Rattle.record.specs.declared.Motor.{Motor}
 use Rattle.record.specs.Record.{withWiring, withDrive}
-use Rattle.motor.specs.Sound.{driving}
+use Rattle.motor.specs.Sound.{busy}
 use Rattle.drive.specs.Drives.{stopped, contacted}
 use Rattle.line.specs.declared.Start.the-variants.{Scan}
 use Rattle.line.specs.declared.Setting.the-variants.{Preset, SetCwLimit}
@@ -210,7 +210,7 @@ invents-lengths-refused r =
 -- a driving motor with another fraction
 abbrev pub withFraction : ℕ → Motor → Motor
 withFraction n m =
-    cond (driving m)
+    cond (busy m)
     (withDrive m (m .ended)
     (record { going = m .drive .going; kind = m .drive .kind; fraction = n; speed = m .drive .speed; target = m .drive .target }))
     m

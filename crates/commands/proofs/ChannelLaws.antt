@@ -12,7 +12,7 @@ use Rattle.line.specs.declared.Order.{Order}
 use Rattle.line.specs.declared.Order.the-variants.{Go, Stop, StopAll, ChangeSpeed, Set, Ask, Mode, AllReply, AskHead, ClearErrors, ClearError}
 use Rattle.line.proofs.Order as T
 use Rattle.drive.specs.declared.Verdict.the-variants.{Busy, Done}
-use Rattle.commands.specs.Judging.{busy, judgeMotor}
+use Rattle.commands.specs.Judging.{meetsBusy, judgeMotor}
 use Rattle.line.specs.Made.{onBench, startMade, endFlag, settingMade, orderMade}
 
 -- the channel that an order names, or the first where it names none
@@ -48,8 +48,8 @@ abbrev pub unjudged : List ℕ
 unjudged = 1 ∷ 2 ∷ 5 ∷ 6 ∷ 7 ∷ 8 ∷ 9 ∷ 10 ∷ []
 
 -- They are never busy, and nothing of a motor refuses them.
-pub others-done : (t : List ℕ) (o : Order) → OneOf unjudged (tagOf T.the-type o) → cond (busy t o) Busy (judgeMotor t o) ≡ Done
-unfolding busy judgeMotor
+pub others-done : (t : List ℕ) (o : Order) → OneOf unjudged (tagOf T.the-type o) → cond (meetsBusy t o) Busy (judgeMotor t o) ≡ Done
+unfolding meetsBusy judgeMotor
 others-done t (Go x s) h = absurd (miss unjudged 0 tt h)
 others-done t (Stop x flags) h = refl
 others-done t (StopAll flags) h = refl

@@ -5,7 +5,7 @@ use mathlib.Core.Bool.{Bool, true, false, _&&_, not, cond}
 use lib.Dec.{eqb}
 use Rattle.drive.specs.declared.Verdict.{Verdict}
 use Rattle.drive.specs.declared.Verdict.the-variants.{Done, Busy, OutOfRange, LocalMode}
-use Rattle.motor.specs.Sound.{driving}
+use Rattle.motor.specs.Sound.{busy}
 use Rattle.drive.specs.Drives.{judgeStart, judgeSpeedChange}
 use Rattle.line.specs.declared.Order.{Order}
 use Rattle.line.specs.declared.Order.the-variants.{Go, Stop, StopAll, ChangeSpeed, Set, Ask, Mode, AllReply, AskHead, ClearErrors, ClearError}
@@ -14,18 +14,18 @@ use Rattle.orders.specs.Settings.{courseOf}
 use Rattle.table.specs.Layout.{mode, motorAt}
 
 -- "a start, setting or speed selection (not SPC) of a driving channel"
-unfoldable pub busy : List ℕ → Order → Bool
-busy t (Go x s) = driving (motorAt t x)
-busy t (Stop x e) = false
-busy t (StopAll e) = false
-busy t (ChangeSpeed x v) = false
-busy t (Set x s) = driving (motorAt t x)
-busy t (Ask x q) = false
-busy t (Mode k) = false
-busy t (AllReply k) = false
-busy t (AskHead q) = false
-busy t ClearErrors = false
-busy t (ClearError e) = false
+unfoldable pub meetsBusy : List ℕ → Order → Bool
+meetsBusy t (Go x s) = busy (motorAt t x)
+meetsBusy t (Stop x e) = false
+meetsBusy t (StopAll e) = false
+meetsBusy t (ChangeSpeed x v) = false
+meetsBusy t (Set x s) = busy (motorAt t x)
+meetsBusy t (Ask x q) = false
+meetsBusy t (Mode k) = false
+meetsBusy t (AllReply k) = false
+meetsBusy t (AskHead q) = false
+meetsBusy t ClearErrors = false
+meetsBusy t (ClearError e) = false
 
 -- what is judged after busy: "target out of range .., the other causes of 4", which lie in the motor
 unfoldable pub judgeMotor : List ℕ → Order → Verdict
@@ -46,5 +46,5 @@ unfoldable pub judge : List ℕ → Order → Verdict
 judge t o =
     cond (needsRemote o && eqb (mode t) 0) LocalMode
     (cond (not (valueInRange o)) OutOfRange
-    (cond (busy t o) Busy
+    (cond (meetsBusy t o) Busy
     (judgeMotor t o)))

@@ -7,7 +7,7 @@ use drive::stop;
 use line::Order;
 use line::Setting;
 use line::Start;
-use motor::is_driving;
+use motor::is_busy;
 use orders::settings::course_of;
 use orders::settings::speed_written;
 use orders::settings::with_setting;
@@ -46,7 +46,7 @@ fn make_stop(t: &mut [u8], x: u8, flags: u8)
     ensures { λ _. ⌜ now (t .exit) ≡ withMotor (now (t .entry)) x (stopped flags (motorAt (now (t .entry)) x)) ⌝ }
 {
     let m = motor_at(t, x);
-    if is_driving(m) {
+    if is_busy(m) {
         put_drive(t, x, stop(m, flags));
     }
 }

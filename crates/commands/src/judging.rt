@@ -5,7 +5,7 @@ use drive::judge_speed_change;
 use drive::judge_start;
 use line::Order;
 use line::Start;
-use motor::is_driving;
+use motor::is_busy;
 use orders::settings::course_of;
 use orders::values::needs_remote;
 use orders::values::value_in_range;
@@ -15,21 +15,21 @@ use table::motor_at;
 ghost use mathlib.Core.Path.{_≡_};
 ghost use mathlib.Core.Bool.{true, cond};
 ghost use lib.ListN.{length};
-ghost use Rattle.motor.specs.Sound.{driving};
+ghost use Rattle.motor.specs.Sound.{busy};
 ghost use Rattle.drive.specs.declared.Verdict.the-variants.{Busy, Done};
 ghost use Rattle.drive.specs.Drives.{judgeStart};
 ghost use Rattle.line.specs.Made.{orderMade};
 ghost use Rattle.orders.specs.Values.{startInRange, valueInRange};
 ghost use Rattle.orders.specs.Settings.{courseOf};
 ghost use Rattle.table.specs.Layout.{tableSize, mode};
-ghost use Rattle.commands.specs.Judging.{busy, judgeMotor, judge};
+ghost use Rattle.commands.specs.Judging.{meetsBusy, judgeMotor, judge};
 
 // A start: busy on a driving channel, else as the motor allows.
 fn judge_go(m: Motor, s: Start) -> Verdict
     requires { ⌜ startInRange s ≡ true ⌝ }
-    ensures { λ r. ⌜ r ≡ cond (driving m) Busy (judgeStart m (courseOf m s)) ⌝ }
+    ensures { λ r. ⌜ r ≡ cond (busy m) Busy (judgeStart m (courseOf m s)) ⌝ }
 {
-    if is_driving(m) {
+    if is_busy(m) {
         Verdict::Busy
     } else {
         judge_start(m, course_of(m, s))
@@ -38,9 +38,9 @@ fn judge_go(m: Motor, s: Start) -> Verdict
 
 // A setting or a selection: busy on a driving channel.
 fn judge_set(m: Motor) -> Verdict
-    ensures { λ r. ⌜ r ≡ cond (driving m) Busy Done ⌝ }
+    ensures { λ r. ⌜ r ≡ cond (busy m) Busy Done ⌝ }
 {
-    if is_driving(m) {
+    if is_busy(m) {
         Verdict::Busy
     } else {
         Verdict::Done
@@ -50,7 +50,7 @@ fn judge_set(m: Motor) -> Verdict
 // What is judged of the channel that an order names, if it names one.
 fn judge_channel(t: &[u8], o: Order) -> Verdict
     requires { ⌜ (length (now t) ≡ tableSize) × (orderMade o ≡ true) × (valueInRange o ≡ true) ⌝ }
-    ensures { λ r. ⌜ r ≡ cond (busy (now (t .entry)) o) Busy (judgeMotor (now (t .entry)) o) ⌝ }
+    ensures { λ r. ⌜ r ≡ cond (meetsBusy (now (t .entry)) o) Busy (judgeMotor (now (t .entry)) o) ⌝ }
 {
     match o {
         Order::Go(x, s) => judge_go(motor_at(t, x), s),

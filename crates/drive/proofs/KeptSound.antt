@@ -14,8 +14,8 @@ use Rattle.record.specs.declared.Setup.{Setup}
 use Rattle.record.specs.declared.Motor.{Motor}
 use Rattle.record.specs.Record.{withPlace, withLimits, withSpeeds, withWiring, withSetup}
 use Rattle.motor.specs.Switches.{blocked, edge, room}
-use Rattle.motor.specs.Sound.{isSpeed, limitsInRange, speedsInRange, wiringInRange, setupInRange, endFlagsInRange, driveInRange, aimRight, driving, soundMotor}
-use Rattle.motor.proofs.SoundLaws.{and-l, and-r, speed-bounds, InRange, Bounds, sound-parts, sound-driving, driving-sound, sound-standing, standing-sound, range-bounds, sound-bounds, target-position, bounds-drive}
+use Rattle.motor.specs.Sound.{isSpeed, limitsInRange, speedsInRange, wiringInRange, setupInRange, endFlagsInRange, driveInRange, aimRight, busy, soundMotor}
+use Rattle.motor.proofs.SoundLaws.{and-l, and-r, speed-bounds, InRange, Bounds, sound-parts, sound-busy, busy-sound, sound-standing, standing-sound, range-bounds, sound-bounds, target-position, bounds-drive}
 use Rattle.drive.specs.declared.Course.{Course}
 use Rattle.drive.specs.declared.Course.the-variants.{Stay, Beyond, To, Along}
 use Rattle.drive.specs.declared.Verdict.the-variants.{Done, Disabled, SwitchAhead, NoRoom}
@@ -30,7 +30,7 @@ ended-sound flags m f r = standing-sound (endedWith flags m) (search) refl
 pub stopped-sound :
     (flags : ℕ) (m : Motor) → endFlagsInRange flags ≡ true → soundMotor m ≡ true → soundMotor (stopped flags m) ≡ true
 unfolding stopped
-stopped-sound flags m f s = go (driving m)
+stopped-sound flags m f s = go (busy m)
   where
     go : (t : Bool) → soundMotor (cond t (endedWith flags m) m) ≡ true
     go true = ended-sound flags m f (sound-parts m s .range)
@@ -38,15 +38,15 @@ stopped-sound flags m f s = go (driving m)
 
 -- A change of speed leaves a sound motor.
 pub speed-changed-sound :
-    (m : Motor) (v : ℕ) → isSpeed v ≡ true → driving m ≡ true → soundMotor m ≡ true → soundMotor (speedChanged m v) ≡ true
+    (m : Motor) (v : ℕ) → isSpeed v ≡ true → busy m ≡ true → soundMotor m ≡ true → soundMotor (speedChanged m v) ≡ true
 unfolding speedChanged room edge blocked aimRight
 speed-changed-sound m v e d s =
     let r = sound-parts m s .range in
-    let w = sound-driving m s d in
+    let w = sound-busy m s d in
     let b = speed-bounds v e in
     let f = sound-bounds m s in
     let drive = bounds-drive (speedChanged m v .drive) (f .going) (f .kind) (omega arith) (target-position (m .drive) (r .drive)) in
-    driving-sound (speedChanged m v) (search) (search) d
+    busy-sound (speedChanged m v) (search) (search) d
 
 -- A switch reading leaves a sound motor.
 contacts-in-range : (m : Motor) (n : ℕ) → n ≤ 7 → InRange m → InRange (contacted m n)
@@ -58,15 +58,15 @@ contacts-in-range m n h r =
 
 pub switch-read-sound : (m : Motor) (n : ℕ) → n ≤ 7 → soundMotor m ≡ true → soundMotor (switchRead m n) ≡ true
 unfolding switchRead room edge aimRight
-switch-read-sound m n h s = go (driving m) refl (blocked (m .drive .going) (contacted m n)) refl
+switch-read-sound m n h s = go (busy m) refl (blocked (m .drive .going) (contacted m n)) refl
   where
     r : InRange (contacted m n)
     r = contacts-in-range m n h (sound-parts m s .range)
 
-    go : (d : Bool) → driving m ≡ d → (b : Bool) → blocked (m .drive .going) (contacted m n) ≡ b
+    go : (d : Bool) → busy m ≡ d → (b : Bool) → blocked (m .drive .going) (contacted m n) ≡ b
         → soundMotor (cond (d && b) (endedWith lsend (contacted m n)) (contacted m n)) ≡ true
     go true d true b = ended-sound lsend (contacted m n) refl r
-    go true d false b = let w = sound-driving m s d in driving-sound (contacted m n) r (search) d
+    go true d false b = let w = sound-busy m s d in busy-sound (contacted m n) r (search) d
     go false d b e = standing-sound (contacted m n) r (sound-standing m s d)
 
 -- The course to the place some pulses from a place is well formed.
@@ -117,7 +117,7 @@ launched-sound m going kind target r h low high k t a =
     let drive = bounds-drive (launched m going kind target .drive) high k (omega arith) t in
     let ready : m .setup .a ≡ 1 = omega (arith, eqb-false (m .setup .a) 0 (n .0), range-bounds m r .setup) in
     let leeway : 1 ≤ room going m = omega (arith, eqb-false (room going m) 0 (n .2)) in
-    driving-sound (launched m going kind target) (search) (search) (rw (ne-eqb going 0 (omega arith)))
+    busy-sound (launched m going kind target) (search) (search) (rw (ne-eqb going 0 (omega arith)))
 
 -- Another place lies ahead in the direction towards it, which is CW or CCW.
 pub towards-ahead :
@@ -154,7 +154,7 @@ started-sound m (Along going) s h a =
 
 -- A setting of a stopped motor leaves a sound motor: whatever changes, if every field is in its range and the drive is as it
 -- was. The settings are a position, the limits, the speeds, the SETLS byte and the SETMT digits.
-module _ (m : Motor) (d : driving m ≡ false) (s : soundMotor m ≡ true) where
+module _ (m : Motor) (d : busy m ≡ false) (s : soundMotor m ≡ true) where
   r : InRange m
   r = sound-parts m s .range
 

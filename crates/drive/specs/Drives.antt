@@ -11,7 +11,7 @@ use Rattle.drive.specs.declared.Verdict.{Verdict}
 use Rattle.drive.specs.declared.Verdict.the-variants.{Done, OutOfRange, Disabled, SwitchAhead, NoRoom, NotDriving}
 use Rattle.record.specs.Record.{withWiring, withDrive, standing}
 use Rattle.motor.specs.Switches.{blocked, room}
-use Rattle.motor.specs.Sound.{driving}
+use Rattle.motor.specs.Sound.{busy}
 
 -- "20h LSEND"
 abbrev pub lsend : ℕ
@@ -78,11 +78,11 @@ endedWith flags m = withDrive m flags standing
 
 -- "A stop ends the drive at once"; "a stop on a stopped motor" changes nothing
 unfoldable pub stopped : ℕ → Motor → Motor
-stopped flags m = cond (driving m) (endedWith flags m) m
+stopped flags m = cond (busy m) (endedWith flags m) m
 
 -- "4 .. SPC on a stopped motor"
 abbrev pub judgeSpeedChange : Motor → Verdict
-judgeSpeedChange m = cond (driving m) Done NotDriving
+judgeSpeedChange m = cond (busy m) Done NotDriving
 
 -- "SPC replaces the speed in force and keeps the fraction."
 unfoldable pub speedChanged : Motor → ℕ → Motor
@@ -98,4 +98,4 @@ contacted m n = withWiring m (record { setls = m .wiring .setls; contacts = n })
 -- ends nothing here."
 unfoldable pub switchRead : Motor → ℕ → Motor
 switchRead m n =
-    cond (driving m && blocked (m .drive .going) (contacted m n)) (endedWith lsend (contacted m n)) (contacted m n)
+    cond (busy m && blocked (m .drive .going) (contacted m n)) (endedWith lsend (contacted m n)) (contacted m n)

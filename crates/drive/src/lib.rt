@@ -10,7 +10,7 @@ use digits::places::LOWEST;
 use digits::places::ORIGIN;
 use digits::places::place_ahead;
 use motor::is_blocked;
-use motor::is_driving;
+use motor::is_busy;
 use motor::room_of;
 use record::Drive;
 use record::Motor;
@@ -162,18 +162,14 @@ pub fn end_drive(m: Motor, flags: u8) -> Motor
 pub fn stop(m: Motor, flags: u8) -> Motor
     ensures { λ r. ⌜ r ≡ stopped flags m ⌝ }
 {
-    if is_driving(m) {
-        end_drive(m, flags)
-    } else {
-        m
-    }
+    if is_busy(m) { end_drive(m, flags) } else { m }
 }
 
 // How a change of the speed in force is judged.
 pub fn judge_speed_change(m: Motor) -> Verdict
     ensures { λ r. ⌜ r ≡ judgeSpeedChange m ⌝ }
 {
-    if is_driving(m) {
+    if is_busy(m) {
         Verdict::Done
     } else {
         Verdict::NotDriving
@@ -205,6 +201,6 @@ pub fn read_switches(m: Motor, contacts: u8) -> Motor
     ensures { λ r. ⌜ r ≡ switchRead m contacts ⌝ }
 {
     let n = with_contacts(m, contacts);
-    let hit = is_driving(m) & is_blocked(m.drive.going, n);
+    let hit = is_busy(m) & is_blocked(m.drive.going, n);
     if hit { end_drive(n, LSEND) } else { n }
 }

@@ -10,7 +10,7 @@ use Rattle.digits.specs.Places.{origin, isPosition, moved, cw, ccw}
 use Rattle.record.specs.declared.Motor.{Motor}
 use Rattle.record.specs.Record.{standing}
 use Rattle.motor.specs.Switches.{blocked}
-use Rattle.motor.specs.Sound.{driving, soundMotor}
+use Rattle.motor.specs.Sound.{busy, soundMotor}
 use Rattle.motor.proofs.SoundLaws.{sound-bounds}
 use Rattle.motor.proofs.RoomLaws.{moved-none}
 use Rattle.drive.specs.declared.Course.the-variants.{Beyond, To}
@@ -115,10 +115,10 @@ off-stays m (Jog going) e = absurd (false≢true (sym e))
 
 -- what the account and the motor have to say of each other
 pub record Balanced (m : Motor) (a : Account) : Type 0 where
-  pub lasting : a .lasts ≡ driving m
-  pub going : driving m ≡ true → a .going ≡ m .drive .going
-  pub speed : driving m ≡ true → a .speed ≡ m .drive .speed
-  pub exact : driving m ≡ true → 1000 * a .pulses + m .drive .fraction ≡ a .sum
+  pub lasting : a .lasts ≡ busy m
+  pub going : busy m ≡ true → a .going ≡ m .drive .going
+  pub speed : busy m ≡ true → a .speed ≡ m .drive .speed
+  pub exact : busy m ≡ true → 1000 * a .pulses + m .drive .fraction ≡ a .sum
   pub most : 1000 * a .pulses ≤ a .sum
 
 -- A deed that ends the drive leaves the account and the motor balanced, and so does one that leaves the drive as it was.
@@ -130,7 +130,7 @@ no-drive n a e h =
 same-drive : (m n : Motor) (a : Account) → n .drive ≡ m .drive → Balanced m a → Balanced n (closed n a)
 same-drive m n a e b =
     rw e
-    (record { lasting = rw (b .lasting) (and-self (driving m)); going = b .going; speed = b .speed; exact = b .exact; most = b .most })
+    (record { lasting = rw (b .lasting) (and-self (busy m)); going = b .going; speed = b .speed; exact = b .exact; most = b .most })
 
 -- No setting touches the drive.
 pub set-drive : (m : Motor) (s : Setting) → withSetting m s .drive ≡ m .drive
@@ -160,20 +160,20 @@ start-balanced m s n a o h w b = go (setsOff m s) refl
     go false e = rw (off-stays m s e) (same-drive m m a refl b)
 
 stop-balanced : (m : Motor) (flags : ℕ) (a : Account) → Balanced m a → Balanced (stopped flags m) (closed (stopped flags m) a)
-stop-balanced m flags a b = go (driving m) refl
+stop-balanced m flags a b = go (busy m) refl
   where
-    go : (t : Bool) → driving m ≡ t → Balanced (stopped flags m) (closed (stopped flags m) a)
+    go : (t : Bool) → busy m ≡ t → Balanced (stopped flags m) (closed (stopped flags m) a)
     go true d = no-drive (stopped flags m) a (stopped-stands flags m d) (b .most)
     go false d = rw (stopped-again flags m d) (same-drive m m a refl b)
 
-speed-balanced : (m : Motor) (v : ℕ) (a : Account) → driving m ≡ true → Balanced m a
+speed-balanced : (m : Motor) (v : ℕ) (a : Account) → busy m ≡ true → Balanced m a
     → Balanced (speedChanged m v) (closed (speedChanged m v) (record { lasts = a .lasts; going = a .going; speed = v; sum = a .sum; pulses = a .pulses }))
 unfolding speedChanged
-speed-balanced m v a d b = record { lasting = rw (b .lasting) (and-self (driving m)); going = b .going; speed = λ e. refl; exact = b .exact; most = b .most }
+speed-balanced m v a d b = record { lasting = rw (b .lasting) (and-self (busy m)); going = b .going; speed = λ e. refl; exact = b .exact; most = b .most }
 
 read-balanced : (m : Motor) (n : ℕ) (a : Account) → Balanced m a → Balanced (switchRead m n) (closed (switchRead m n) a)
 unfolding switchRead
-read-balanced m n a b = go (driving m && blocked (m .drive .going) (contacted m n))
+read-balanced m n a b = go (busy m && blocked (m .drive .going) (contacted m n))
   where
     after : Bool → Motor
     after t = cond t (endedWith lsend (contacted m n)) (contacted m n)
@@ -183,7 +183,7 @@ read-balanced m n a b = go (driving m && blocked (m .drive .going) (contacted m 
     go false = same-drive m (contacted m n) a refl b
 
 -- A tick books its speed and its pulses while the drive lasts.
-speed-in-force : (m : Motor) → driving m ≡ true → tickSpeed m ≡ m .drive .speed
+speed-in-force : (m : Motor) → busy m ≡ true → tickSpeed m ≡ m .drive .speed
 unfolding tickSpeed
 speed-in-force m d = rw d
 
@@ -191,7 +191,7 @@ tick-balanced : (m : Motor) (n : ℕ) (a : Account) → n ≡ tickMotor m .pulse
     → Balanced (tickMotor m .motor) (closed (tickMotor m .motor) (booked m n a ticks))
 unfolding booked
 tick-balanced m n a p b =
-    subst (λ (t : Bool). Balanced (tickMotor m .motor) (closed (tickMotor m .motor) (cond t (record { lasts = true; going = a .going; speed = a .speed; sum = a .sum + a .speed; pulses = a .pulses + n }) a))) (sym (b .lasting)) (go (driving m) refl)
+    subst (λ (t : Bool). Balanced (tickMotor m .motor) (closed (tickMotor m .motor) (cond t (record { lasts = true; going = a .going; speed = a .speed; sum = a .sum + a .speed; pulses = a .pulses + n }) a))) (sym (b .lasting)) (go (busy m) refl)
   where
     m' : Motor
     m' = tickMotor m .motor
@@ -199,7 +199,7 @@ tick-balanced m n a p b =
     more : Account
     more = record { lasts = true; going = a .going; speed = a .speed; sum = a .sum + a .speed; pulses = a .pulses + n }
 
-    go : (t : Bool) → driving m ≡ t → Balanced m' (closed m' (cond t more a))
+    go : (t : Bool) → busy m ≡ t → Balanced m' (closed m' (cond t more a))
     go false d = same-drive m m' a (ap (λ (x : Ticked). x .motor .drive) (stopped-given-none m d)) b
     go true d =
         let v : tickSpeed m ≡ a .speed = speed-in-force m d ∙ sym (b .speed d) in

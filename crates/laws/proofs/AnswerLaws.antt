@@ -17,7 +17,7 @@ use Rattle.orders.specs.Values.{needsRemote, valueInRange}
 use Rattle.replies.specs.Replies.{echo, questionText, headText}
 use Rattle.table.specs.Layout.{mode, allReply, errors, motorAt}
 use Rattle.table.specs.Sound.{soundTable}
-use Rattle.commands.specs.Judging.{busy, judgeMotor, judge}
+use Rattle.commands.specs.Judging.{meetsBusy, judgeMotor, judge}
 use Rattle.commands.specs.Changing.{changed}
 use Rattle.commands.specs.Answers.{told, answer}
 use Rattle.obeying.specs.Taking.{CommandAfter, refused, obeyed, taken}
@@ -66,7 +66,7 @@ module _ (t line reply : List ℕ) (s : soundTable t ≡ true) (enough : 32 ≤ 
   told-call e = rw (right-size t s, le-leb 32 (length reply) enough, s) (told-so (orderOf line) e)
 
   pub replies : Replies urqolina t line reply s enough
-  unfolding judge needsRemote valueInRange busy judgeMotor changed answer after Told
+  unfolding judge needsRemote valueInRange meetsBusy judgeMotor changed answer after Told
   replies =
       record {
         reads = λ x q e. asked t line reply (Ask x q) (questionText (mode t) x (motorAt t x) q) s enough e refl refl refl;

@@ -9,7 +9,7 @@ use Rattle.digits.specs.Places.{origin, isPosition, moved, cw, ccw}
 use Rattle.digits.specs.Words.{isSet}
 use Rattle.record.specs.declared.Speeds.{Speeds}
 use Rattle.record.specs.declared.Motor.{Motor}
-use Rattle.motor.specs.Sound.{isSpeed, limitsInRange, speedsInRange, wiringInRange, endFlagsInRange, driving, soundMotor}
+use Rattle.motor.specs.Sound.{isSpeed, limitsInRange, speedsInRange, wiringInRange, endFlagsInRange, busy, soundMotor}
 use Rattle.motor.proofs.SoundLaws.{and-l, and-r, sound-parts, bounds-position}
 use Rattle.drive.specs.declared.Verdict.the-variants.{Done}
 use Rattle.drive.specs.Drives.{judgeStart, wellAimed, started, stopped, speedChanged, switchRead}
@@ -39,10 +39,10 @@ performed m rests = m
 
 -- what is known of a deed that was accepted, and of its motor
 pub data Fits (m : Motor) : Deed → Type 0 where
-  fits-start : (s : Start) → driving m ≡ false → judgeStart m (courseOf m s) ≡ Done → wellAimed m (courseOf m s) ≡ true → startMade s ≡ true → Fits m (starts s)
+  fits-start : (s : Start) → busy m ≡ false → judgeStart m (courseOf m s) ≡ Done → wellAimed m (courseOf m s) ≡ true → startMade s ≡ true → Fits m (starts s)
   fits-stop : (flags : ℕ) → endFlagsInRange flags ≡ true → Fits m (stops flags)
-  fits-speed : (v : ℕ) → driving m ≡ true → isSpeed v ≡ true → Fits m (speeds v)
-  fits-set : (s : Setting) → driving m ≡ false → settingInRange s ≡ true → settingMade s ≡ true → Fits m (sets s)
+  fits-speed : (v : ℕ) → busy m ≡ true → isSpeed v ≡ true → Fits m (speeds v)
+  fits-set : (s : Setting) → busy m ≡ false → settingInRange s ≡ true → settingMade s ≡ true → Fits m (sets s)
   fits-read : (n : ℕ) → n ≤ 7 → Fits m (reads n)
   fits-tick : Fits m ticks
   fits-rest : Fits m rests
@@ -91,7 +91,7 @@ unfolding wiringInRange
 contacts-bound m o = and-r (leb (m .wiring .setls) 255 && not (isSet 3 (m .wiring .setls))) (leb (m .wiring .contacts) 7) (sound-parts m o .range .wiring)
 
 -- An accepted setting leaves a sound motor.
-setting-sound : (m : Motor) (s : Setting) → soundMotor m ≡ true → driving m ≡ false → settingInRange s ≡ true → settingMade s ≡ true
+setting-sound : (m : Motor) (s : Setting) → soundMotor m ≡ true → busy m ≡ false → settingInRange s ≡ true → settingMade s ≡ true
     → soundMotor (withSetting m s) ≡ true
 unfolding withSetting limitsInRange
 setting-sound m (Preset w) o d h k = place-set-sound m d o (placeWritten w) (written-position w h)

@@ -11,7 +11,7 @@ use borrow.Author.Tests.{eq-eqb, ne-eqb, eqb-true, eqb-false, leb-true, leb-fals
 use Rattle.digits.specs.Bytes.{put}
 use Rattle.digits.specs.Words.{isSet, withBit, withoutBit}
 use Rattle.record.specs.declared.Motor.{Motor}
-use Rattle.motor.specs.Sound.{endFlagsInRange, driving}
+use Rattle.motor.specs.Sound.{endFlagsInRange, busy}
 use Rattle.motor.proofs.SoundLaws.{and-r}
 use Rattle.drive.specs.declared.Verdict.{Verdict}
 use Rattle.drive.specs.declared.Verdict.the-variants.{Done, NoForm, Busy, OutOfRange, LocalMode, Disabled, SwitchAhead, NoRoom, NotDriving, WrongSize, NotSound}
@@ -36,7 +36,7 @@ use Rattle.table.specs.Sound.{soundTable}
 use Rattle.table.proofs.TableLaws.{sound-length, sound-motor-at}
 use Rattle.table.proofs.PieceLaws.{part-after}
 use Rattle.table.proofs.KeptLaws.{written-motor, motor-kept, sound-head-of, head-parts, motor-sound, motors-sound, mode-sound, reply-sound, errors-sound}
-use Rattle.commands.specs.Judging.{busy, judgeMotor, judge}
+use Rattle.commands.specs.Judging.{meetsBusy, judgeMotor, judge}
 use Rattle.commands.specs.Changing.{changed, flagged}
 use Rattle.commands.proofs.ChannelLaws.{named, named-channel}
 use Rattle.obeying.specs.Taking.{refused, obeyed}
@@ -66,14 +66,14 @@ done NotSound e = absurd (omega (arith, e))
 pub record Passed (t : List ℕ) (o : Order) : Type 0 where
   pub remote : (needsRemote o && eqb (mode t) 0) ≡ false
   pub value : valueInRange o ≡ true
-  pub free : busy t o ≡ false
+  pub free : meetsBusy t o ≡ false
   pub motor : judgeMotor t o ≡ Done
 
 pub passed : (t : List ℕ) (o : Order) → numberOf (judge t o) ≡ 0 → Passed t o
 unfolding judge numberOf
-passed t o = go (needsRemote o && eqb (mode t) 0) refl (valueInRange o) refl (busy t o) refl
+passed t o = go (needsRemote o && eqb (mode t) 0) refl (valueInRange o) refl (meetsBusy t o) refl
   where
-    go : (r : Bool) → (needsRemote o && eqb (mode t) 0) ≡ r → (v : Bool) → valueInRange o ≡ v → (b : Bool) → busy t o ≡ b
+    go : (r : Bool) → (needsRemote o && eqb (mode t) 0) ≡ r → (v : Bool) → valueInRange o ≡ v → (b : Bool) → meetsBusy t o ≡ b
         → numberOf (cond r LocalMode (cond (not v) OutOfRange (cond b Busy (judgeMotor t o)))) ≡ 0 → Passed t o
     go true r v ev b eb e = absurd (omega (arith, e))
     go false r false v b eb e = absurd (omega (arith, e))
@@ -103,7 +103,7 @@ goes-on false e = cc
 -- An accepted order that names channel x fits its motor.
 module _ (t : List ℕ) (x : ℕ) where
   go-fits : (s : Start) → orderMade (Go x s) ≡ true → numberOf (judge t (Go x s)) ≡ 0 → Fits (motorAt t x) (starts s)
-  unfolding orderMade valueInRange busy judgeMotor
+  unfolding orderMade valueInRange meetsBusy judgeMotor
   go-fits s h e =
       let p = passed t (Go x s) e in
       let made = and-r (onBench x) (startMade s) h in
@@ -117,10 +117,10 @@ module _ (t : List ℕ) (x : ℕ) where
   unfolding valueInRange judgeMotor
   speed-fits v e =
       let p = passed t (ChangeSpeed x v) e in
-      fits-speed v (goes-on (driving (motorAt t x)) (p .motor)) (p .value)
+      fits-speed v (goes-on (busy (motorAt t x)) (p .motor)) (p .value)
 
   set-fits : (s : Setting) → orderMade (Set x s) ≡ true → numberOf (judge t (Set x s)) ≡ 0 → Fits (motorAt t x) (sets s)
-  unfolding orderMade valueInRange busy
+  unfolding orderMade valueInRange meetsBusy
   set-fits s h e =
       let p = passed t (Set x s) e in
       fits-set s (p .free) (p .value) (and-r (onBench x) (settingMade s) h)

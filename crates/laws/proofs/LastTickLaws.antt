@@ -12,7 +12,7 @@ use lib.Dec.{eqb, leb}
 use borrow.Author.Tests.{eq-eqb, not-true}
 use Rattle.record.specs.declared.Motor.{Motor}
 use Rattle.record.specs.Record.{withPlace}
-use Rattle.motor.specs.Sound.{driving, soundMotor}
+use Rattle.motor.specs.Sound.{busy, soundMotor}
 use Rattle.motor.proofs.SoundLaws.{and-l, and-r}
 use Rattle.drive.specs.declared.Course.the-variants.{To}
 use Rattle.drive.specs.declared.Verdict.the-variants.{Done}
@@ -43,7 +43,7 @@ ticks-in c t (tick p) ks = go (eqb (length p) 64)
     go false = unfold isTick in refl
 
 -- A motor that has come some ticks on its way goes on with the ticks of a sequence, as long as it drives and nothing disturbs it.
-module _ (c : ℕ) (on : c ≤ 15) (m : Motor) (last : ℕ) (lasts : (k : ℕ) → k < last → driving (ticks k m) ≡ true) where
+module _ (c : ℕ) (on : c ≤ 15) (m : Motor) (last : ℕ) (lasts : (k : ℕ) → k < last → busy (ticks k m) ≡ true) where
   abbrev disturbed : List ℕ → Call → Bool
   disturbed t k = disturbs (deed c t k)
 
@@ -56,7 +56,7 @@ module _ (c : ℕ) (on : c ≤ 15) (m : Motor) (last : ℕ) (lasts : (k : ℕ) �
       u : Motor
       u = motorAt (after urqolina t k .table) c
 
-      drives : driving (motorAt t c) ≡ true
+      drives : busy (motorAt t c) ≡ true
       drives = rw e (lasts n h)
 
       go : (d : Deed) → disturbs d ≡ false → u ≡ performed (motorAt t c) d → Fits (motorAt t c) d → u ≡ ticks (oneMore (isTick d) n) m
@@ -124,7 +124,7 @@ module _ (b : List ℕ) (whole : length b ≡ tableSize) (c : ℕ) (on : c ≤ 1
       rw zero-add at
       (on-its-way c on (started m (To p)) (lastTick urqolina b c ks k p later) (started-drives-before m p o (g .judged) (g .aimed) (w .within)) later u 0 (next t k s .sound) first (w .alone) (rw zero-add h))
 
-  before : Undisturbed urqolina b c ks k p later → ticksIn later < lastTick urqolina b c ks k p later → driving (motorAt (run urqolina u later) c) ≡ true
+  before : Undisturbed urqolina b c ks k p later → ticksIn later < lastTick urqolina b c ks k p later → busy (motorAt (run urqolina u later) c) ≡ true
   before w h =
       let g = begun w in
       rw (way w h) (started-drives-before m p o (g .judged) (g .aimed) (w .within) (ticksIn later) h)

@@ -11,7 +11,7 @@ use Rattle.digits.specs.Bytes.{AllBytes, part, put}
 use Rattle.digits.specs.Words.{withoutBit}
 use Rattle.record.specs.declared.Motor.{Motor}
 use Rattle.record.specs.Record.{motorOf, recordOf}
-use Rattle.motor.specs.Sound.{driving}
+use Rattle.motor.specs.Sound.{busy}
 use Rattle.drive.specs.Drives.{stopped}
 use Rattle.pulses.specs.Ticks.{tickMotor}
 use Rattle.pulses.proofs.Laws.{stopped-given-none}
@@ -106,12 +106,12 @@ unreached t line reply o d e q =
     command-left t line reply o d e (rw q) (λ s flags f. absurd (false≢true (cc (q, f))))
 
 still : (t line reply : List ℕ) (o : Order) (flags d : ℕ) → AllBytes t → d ≤ 15 → orderOf line ≡ Is o → deedOf d o ≡ stops flags
-    → driving (motorAt t d) ≡ false → recordAt (commandCall t line reply .table) d ≡ recordAt t d
+    → busy (motorAt t d) ≡ false → recordAt (commandCall t line reply .table) d ≡ recordAt t d
 still t line reply o flags d bytes h e q stands =
     command-left t line reply o d e (rw q) (λ s f k. (h, rw (stopped-again f (motorAt t d) stands) (written-back t d s bytes h)))
 
 -- A tick leaves it too.
-unticked : (t p : List ℕ) (d : ℕ) → AllBytes t → d ≤ 15 → driving (motorAt t d) ≡ false → recordAt (tickCall t p .table) d ≡ recordAt t d
+unticked : (t p : List ℕ) (d : ℕ) → AllBytes t → d ≤ 15 → busy (motorAt t d) ≡ false → recordAt (tickCall t p .table) d ≡ recordAt t d
 unticked t p d bytes h stands =
     tick-ways (λ a. recordAt (a .table) d ≡ recordAt t d) t p (λ n l m. refl)
     (λ s. motors-record t (λ m. tickMotor m .motor) d (sound-length t s) h ∙ rw (stopped-given-none (motorAt t d) stands) (written-back t d s bytes h))

@@ -12,8 +12,8 @@ use Rattle.digits.specs.Places.{ahead, countOf, cw}
 use Rattle.record.specs.declared.Motor.{Motor}
 use Rattle.record.specs.Record.{freshMotor}
 use Rattle.motor.specs.Switches.{blocked, edge, room}
-use Rattle.motor.specs.Sound.{aimRight, driving, soundMotor}
-use Rattle.motor.proofs.SoundLaws.{sound-driving, sound-bounds}
+use Rattle.motor.specs.Sound.{aimRight, busy, soundMotor}
+use Rattle.motor.proofs.SoundLaws.{sound-busy, sound-bounds}
 use Rattle.motor.proofs.RoomLaws.{moved-ahead, room-moved}
 use Rattle.pulses.specs.declared.Ticked.{Ticked}
 use Rattle.drive.specs.declared.Verdict.the-variants.{Done}
@@ -35,7 +35,7 @@ use Rattle.table.proofs.TableLaws.{sound-motor-at}
 use Rattle.laws.specs.Sequences.{urqolina, Call, after, run, ran}
 use Rattle.laws.specs.Deeds as D
 use Rattle.laws.specs.Deeds.{Deed, deed}
-use Rattle.laws.specs.Ledger.{countAt, cwPulses, ccwPulses, against, wayOf, Account, noDrive, setsOff, entered, account, Travel, noTravel, moving, travel}
+use Rattle.laws.specs.Ledger.{countAt, cwPulses, ccwPulses, against, wayOf, Account, noDrive, setsOff, entered, account, Travel, noTravel, travelled, travel}
 use Rattle.laws.specs.Pulses.{Demand3, Ends, byStop, bySwitch, byTarget, byRoom}
 use Rattle.laws.proofs.PartLaws.{fresh-motor}
 use Rattle.laws.proofs.DeedLaws.{performed, Fits, fits-start, fits-speed, fits-set}
@@ -69,9 +69,9 @@ module _ (c : ℕ) (on : c ≤ 15) where
   run-kept t (k ∷ ks) j s h =
       let f = next t k s .follows c on in
       let n : ℕ = countAt (after urqolina t k .buffer) c in
-      let then : Kept (motorAt (after urqolina t k .table) c) (moving n j (deed c t k)) =
+      let then : Kept (motorAt (after urqolina t k .table) c) (travelled n j (deed c t k)) =
       rw (f .motor) (performed-kept (motorAt t c) (deed c t k) n j (sound-motor-at t c s on) (λ e. tick-count t k c s on e) h) in
-      run-kept (after urqolina t k .table) ks (moving n j (deed c t k)) (next t k s .sound) then
+      run-kept (after urqolina t k .table) ks (travelled n j (deed c t k)) (next t k s .sound) then
 
   -- A fresh motor stands stopped at zero.
   fresh-balanced : Balanced (motorAt freshTable c) noDrive
@@ -86,19 +86,19 @@ module _ (c : ℕ) (on : c ≤ 15) where
 
 -- A switch reading ends a drive, with LSEND, where the switch of its direction is active and enabled after it, and only there.
 module _ (m : Motor) (n : ℕ) where
-  read-ways : (P : Bool → Motor → Type 0) → (driving m ≡ true → P true (endedWith lsend (contacted m n))) → (driving m ≡ true → P false (contacted m n))
-      → ((b : Bool) → driving m ≡ false → P b (contacted m n)) → P (blocked (m .drive .going) (contacted m n)) (switchRead m n)
+  read-ways : (P : Bool → Motor → Type 0) → (busy m ≡ true → P true (endedWith lsend (contacted m n))) → (busy m ≡ true → P false (contacted m n))
+      → ((b : Bool) → busy m ≡ false → P b (contacted m n)) → P (blocked (m .drive .going) (contacted m n)) (switchRead m n)
   unfolding switchRead
-  read-ways P ended on still = go (driving m) refl (blocked (m .drive .going) (contacted m n))
+  read-ways P ended on still = go (busy m) refl (blocked (m .drive .going) (contacted m n))
     where
-      go : (t : Bool) → driving m ≡ t → (u : Bool) → P u (cond (t && u) (endedWith lsend (contacted m n)) (contacted m n))
+      go : (t : Bool) → busy m ≡ t → (u : Bool) → P u (cond (t && u) (endedWith lsend (contacted m n)) (contacted m n))
       go true e true = ended e
       go true e false = on e
       go false e u = still u e
 
   -- what a reading leaves, by whether the switch is in the way
   abbrev Read : Bool → Motor → Type 0
-  Read t u = (driving m ≡ true → driving u ≡ false → (t ≡ true) × (u .ended ≡ lsend)) × (t ≡ true → driving u ≡ false)
+  Read t u = (busy m ≡ true → busy u ≡ false → (t ≡ true) × (u .ended ≡ lsend)) × (t ≡ true → busy u ≡ false)
 
   read-so : Read (blocked (m .drive .going) (switchRead m n)) (switchRead m n)
   unfolding blocked
@@ -110,7 +110,7 @@ module _ (m : Motor) (n : ℕ) where
       same = read-ways (λ t u. blocked (m .drive .going) u ≡ blocked (m .drive .going) (contacted m n)) (λ d. refl) (λ d. refl) (λ t d. refl)
 
 -- A drive that a tick ends is at its target, with flags 0, or has used its room up, with LSEND.
-tick-ends : (m : Motor) → soundMotor m ≡ true → driving m ≡ true → driving (tickMotor m .motor) ≡ false
+tick-ends : (m : Motor) → soundMotor m ≡ true → busy m ≡ true → busy (tickMotor m .motor) ≡ false
     → ((toTarget m ≡ true) × (tickMotor m .motor .place ≡ m .drive .target) × (tickMotor m .motor .ended ≡ 0))
     ⊎ ((room (m .drive .going) (tickMotor m .motor) ≡ 0) × (tickMotor m .motor .ended ≡ lsend))
 unfolding room edge distanceLeft aimRight
@@ -119,22 +119,22 @@ tick-ends m s d = go (way m)
     g : ℕ
     g = m .drive .going
 
-    go : {t : Ticked} → Way m t → driving (t .motor) ≡ false
+    go : {t : Ticked} → Way m t → busy (t .motor) ≡ false
         → ((toTarget m ≡ true) × (t .motor .place ≡ m .drive .target) × (t .motor .ended ≡ 0)) ⊎ ((room g (t .motor) ≡ 0) × (t .motor .ended ≡ lsend))
     go (rests e) h = absurd (false≢true (sym e ∙ d))
     go (arrives e r) h =
         let t = reached-all m r in
-        let far = leb-true 1 (ahead g (m .place) (m .drive .target)) (rw (t .0) at (sound-driving m s d .aim)) in
+        let far = leb-true 1 (ahead g (m .place) (m .drive .target)) (rw (t .0) at (sound-busy m s d .aim)) in
         inl (t .0, rw (t .1) (moved-ahead g (m .place) (m .drive .target) far), refl)
     go (ends e r u) h = inr (omega (arith, room-moved g m (given m), room-all m u), refl)
     go (goes e r u) h = absurd (false≢true (sym h ∙ e))
 
 -- An accepted start that sets off drives.
-leaves-driving : (m n : Motor) (going : ℕ) → Leaves m going n → driving n ≡ true
-leaves-driving m _ going (leaves kind target h) = rw (ne-eqb going 0 (omega arith))
+leaves-busy : (m n : Motor) (going : ℕ) → Leaves m going n → busy n ≡ true
+leaves-busy m _ going (leaves kind target h) = rw (ne-eqb going 0 (omega arith))
 
 -- A stopped motor's count is 0.
-stopped-count : (m : Motor) → driving m ≡ false → tickCount m ≡ 0
+stopped-count : (m : Motor) → busy m ≡ false → tickCount m ≡ 0
 unfolding tickCount countOf
 stopped-count m d = rw (stopped-given-none m d, eqb-true (m .drive .going) 0 (not-false _ d))
 
@@ -150,13 +150,13 @@ one-way m s =
     go false = refl
 
 -- No tick of a drive goes past its room or its target.
-capped : (m : Motor) → soundMotor m ≡ true → driving m ≡ true
+capped : (m : Motor) → soundMotor m ≡ true → busy m ≡ true
     → (cwPulses (tickCount m) + ccwPulses (tickCount m) ≤ roomLeft m) × (toTarget m ≡ true → cwPulses (tickCount m) + ccwPulses (tickCount m) ≤ distanceLeft m)
 unfolding tickMotor
 capped m s d = let n = rw d at (tick-counted m s) in rw n (given-room m, given-distance m)
 
 -- A stop leaves nothing driving, and its end flags where something drove.
-stop-so : (m : Motor) (flags : ℕ) → soundMotor m ≡ true → (driving (stopped flags m) ≡ false) × (driving m ≡ true → stopped flags m .ended ≡ flags)
+stop-so : (m : Motor) (flags : ℕ) → soundMotor m ≡ true → (busy (stopped flags m) ≡ false) × (busy m ≡ true → stopped flags m .ended ≡ flags)
 stop-so m flags s = (rw (stopped-none flags m s), λ d. unfold stopped in rw d)
 
 -- No setting touches the end flags.
@@ -172,14 +172,14 @@ set-flags m (SetMotor q) = refl
 
 -- A motor that stands stopped before a deed and after it keeps its end flags.
 start-flags : (m : Motor) (s : Start) → soundMotor m ≡ true → judgeStart m (courseOf m s) ≡ Done → startMade s ≡ true
-    → driving (started m (courseOf m s)) ≡ false → started m (courseOf m s) .ended ≡ m .ended
+    → busy (started m (courseOf m s)) ≡ false → started m (courseOf m s) .ended ≡ m .ended
 start-flags m s o j r n = go (setsOff m s) refl
   where
     go : (b : Bool) → setsOff m s ≡ b → started m (courseOf m s) .ended ≡ m .ended
-    go true off = absurd (false≢true (sym n ∙ leaves-driving m (started m (courseOf m s)) (wayOf m s) (off-leaves m s o j r off)))
+    go true off = absurd (false≢true (sym n ∙ leaves-busy m (started m (courseOf m s)) (wayOf m s) (off-leaves m s o j r off)))
     go false off = rw (off-stays m s off)
 
-flags-kept : (m : Motor) (d : Deed) → soundMotor m ≡ true → Fits m d → driving m ≡ false → driving (performed m d) ≡ false
+flags-kept : (m : Motor) (d : Deed) → soundMotor m ≡ true → Fits m d → busy m ≡ false → busy (performed m d) ≡ false
     → performed m d .ended ≡ m .ended
 unfolding performed
 flags-kept m (D.starts s) o (fits-start _ still j w r) e n = start-flags m s o j r n
@@ -214,23 +214,23 @@ module _ (b : List ℕ) (whole : length b ≡ tableSize) (c : ℕ) (on : c ≤ 1
   followed : (k : Call) (d : Deed) → deed c t k ≡ d → Follows t (after urqolina t k .table) c d
   followed k d e = rw e at (next t k s .follows c on)
 
-  starting : (k : Call) (st : Start) → deed c t k ≡ D.starts st → setsOff m st ≡ true → driving (motorAt (after urqolina t k .table) c) ≡ true
+  starting : (k : Call) (st : Start) → deed c t k ≡ D.starts st → setsOff m st ≡ true → busy (motorAt (after urqolina t k .table) c) ≡ true
   unfolding performed
   starting k st e off = let f = followed k (D.starts st) e in rw (f .motor) (go (f .fits))
     where
-      go : Fits m (D.starts st) → driving (started m (courseOf m st)) ≡ true
-      go (fits-start _ still h w r) = leaves-driving m (started m (courseOf m st)) (wayOf m st) (off-leaves m st o h r off)
+      go : Fits m (D.starts st) → busy (started m (courseOf m st)) ≡ true
+      go (fits-start _ still h w r) = leaves-busy m (started m (courseOf m st)) (wayOf m st) (off-leaves m st o h r off)
 
-  stopping : (k : Call) (flags : ℕ) → deed c t k ≡ D.stops flags → driving (motorAt (after urqolina t k .table) c) ≡ false
+  stopping : (k : Call) (flags : ℕ) → deed c t k ≡ D.stops flags → busy (motorAt (after urqolina t k .table) c) ≡ false
   unfolding performed
   stopping k flags e = rw (followed k (D.stops flags) e .motor) (stop-so m flags o .0)
 
   switching : (k : Call) (n : ℕ) → deed c t k ≡ D.reads n → blocked (m .drive .going) (motorAt (after urqolina t k .table) c) ≡ true
-      → driving (motorAt (after urqolina t k .table) c) ≡ false
+      → busy (motorAt (after urqolina t k .table) c) ≡ false
   unfolding performed
   switching k n e = rw (followed k (D.reads n) e .motor) (read-so m n .1)
 
-  ending : (k : Call) → driving m ≡ true → driving (motorAt (after urqolina t k .table) c) ≡ false → Ends urqolina b c ks k
+  ending : (k : Call) → busy m ≡ true → busy (motorAt (after urqolina t k .table) c) ≡ false → Ends urqolina b c ks k
   unfolding performed speedChanged
   ending k d h = let f = next t k s .follows c on in go (deed c t k) refl (f .motor) (f .fits)
     where
@@ -247,7 +247,7 @@ module _ (b : List ℕ) (whole : length b ≡ tableSize) (c : ℕ) (on : c ≤ 1
           ⊎-elim (λ r. byTarget e (r .0) (rw q (r .1)) (rw q (r .2))) (λ r. byRoom e (rw q (r .0)) (rw q (r .1))) (tick-ends m o d (rw q at h))
       go D.rests e q f = absurd (false≢true (sym (rw q at h) ∙ d))
 
-  flags : (k : Call) → driving m ≡ false → driving (motorAt (after urqolina t k .table) c) ≡ false
+  flags : (k : Call) → busy m ≡ false → busy (motorAt (after urqolina t k .table) c) ≡ false
       → motorAt (after urqolina t k .table) c .ended ≡ m .ended
   flags k d h = let f = next t k s .follows c on in rw (f .motor) (flags-kept m (deed c t k) o (f .fits) d (rw (f .motor) at h))
 

@@ -36,7 +36,7 @@ use Rattle.table.specs.Sound.{soundTable}
 use Rattle.table.proofs.TableLaws.{sound-length, sound-motor-at}
 use Rattle.table.proofs.PieceLaws.{part-same, part-before, part-after}
 use Rattle.table.proofs.KeptLaws.{head-kept}
-use Rattle.commands.specs.Judging.{busy, judgeMotor, judge}
+use Rattle.commands.specs.Judging.{meetsBusy, judgeMotor, judge}
 use Rattle.commands.specs.Changing.{changed, flagged}
 use Rattle.commands.proofs.ChannelLaws.{named, named-channel}
 use Rattle.commands.specs.Answers.{answer}
@@ -225,7 +225,7 @@ byte-on u later i n h o e w =
 -- The demand: what was set is answered, whatever came before, and whatever came since that did not change it.
 pub reads-back : (b : List ℕ) → length b ≡ tableSize → (ks : List Call) (k : Call) (later : List Call) (line reply : List ℕ) (enough : 32 ≤ length reply)
     → ReadsBack urqolina b ks k later line reply enough
-unfolding judge needsRemote valueInRange busy judgeMotor changed answer headText
+unfolding judge needsRemote valueInRange meetsBusy judgeMotor changed answer headText
 reads-back b size ks k later line reply enough =
     record {
       setting = λ x s e h q.

@@ -9,7 +9,7 @@ use borrow.Author.Tests.{ne-eqb, eqb-true, eqb-false, leb-true, not-false}
 use Rattle.record.specs.declared.Speeds.{Speeds}
 use Rattle.record.specs.declared.Motor.{Motor}
 use Rattle.motor.specs.Switches.{blocked}
-use Rattle.motor.specs.Sound.{driving, soundMotor}
+use Rattle.motor.specs.Sound.{busy, soundMotor}
 use Rattle.motor.proofs.SoundLaws.{and-l, and-r}
 use Rattle.drive.specs.declared.Course.{Course}
 use Rattle.drive.specs.declared.Course.the-variants.{Stay, Beyond, To, Along}
@@ -118,12 +118,12 @@ started-keeps m (Along going) = search
 
 stopped-keeps : (m : Motor) (flags : ℕ) → Keeps m (stopped flags m) none
 unfolding stopped
-stopped-keeps m flags = either-keeps (driving m) m (endedWith flags m) m (search) (search)
+stopped-keeps m flags = either-keeps (busy m) m (endedWith flags m) m (search) (search)
 
 read-keeps : (m : Motor) (n : ℕ) → Keeps m (switchRead m n) none
 unfolding switchRead
 read-keeps m n =
-    either-keeps (driving m && blocked (m .drive .going) (contacted m n)) m (endedWith lsend (contacted m n)) (contacted m n) (search) (search)
+    either-keeps (busy m && blocked (m .drive .going) (contacted m n)) m (endedWith lsend (contacted m n)) (contacted m n) (search) (search)
 
 -- A setting changes its own topic alone.
 never : {A : Type 0} {a b : A} → true ≡ false → a ≡ b

@@ -8,7 +8,7 @@ use lib.ListN.{length}
 use Rattle.record.specs.declared.Motor.{Motor}
 use Rattle.record.specs.Record.{freshMotor}
 use Rattle.motor.specs.Switches.{blocked}
-use Rattle.motor.specs.Sound.{driving}
+use Rattle.motor.specs.Sound.{busy}
 use Rattle.drive.specs.declared.Course.{Course}
 use Rattle.drive.specs.declared.Course.the-variants.{Stay, Beyond, To, Along}
 use Rattle.drive.specs.Drives.{lsend, started, endedWith, stopped, speedChanged, contacted, switchRead}
@@ -66,13 +66,13 @@ set-same m n (SetMotor q) p = record { limits = p .limits; speeds = p .speeds; w
 performed-same : (m n : Motor) (d : Deed) → SameSettings m n → SameSettings (settled m d) (performed n d)
 unfolding settled performed stopped speedChanged switchRead
 performed-same m n (starts s) p = same-on m n (started n (courseOf n s)) p (started-same n (courseOf n s))
-performed-same m n (stops flags) p = same-on m n _ p (either-same (driving n) n (endedWith flags n) n (search) (search))
+performed-same m n (stops flags) p = same-on m n _ p (either-same (busy n) n (endedWith flags n) n (search) (search))
 performed-same m n (speeds v) p = same-on m n (speedChanged n v) p (search)
 performed-same m n (sets s) p = set-same m n s p
 performed-same m n (reads c) p =
     let read : SameSettings (contacted m c) (contacted n c) = record { limits = p .limits; speeds = p .speeds; wiring = rw (p .wiring); setup = p .setup } in
     same-on (contacted m c) (contacted n c) _ read
-    (either-same (driving n && blocked (n .drive .going) (contacted n c)) (contacted n c) (endedWith lsend (contacted n c)) (contacted n c) (search) (search))
+    (either-same (busy n && blocked (n .drive .going) (contacted n c)) (contacted n c) (endedWith lsend (contacted n c)) (contacted n c) (search) (search))
 performed-same m n ticks p = same-on m n (tickMotor n .motor) p (settings-stay n)
 performed-same m n rests p = p
 

@@ -11,7 +11,7 @@ use Rattle.digits.specs.Places.{countOf, cw}
 use Rattle.digits.proofs.WordLaws.{word-bytes}
 use Rattle.record.specs.declared.Motor.{Motor}
 use Rattle.motor.specs.Switches.{blocked}
-use Rattle.motor.specs.Sound.{driving, soundMotor}
+use Rattle.motor.specs.Sound.{busy, soundMotor}
 use Rattle.motor.proofs.SoundLaws.{sound-bounds}
 use Rattle.drive.specs.declared.Course.{Course}
 use Rattle.drive.specs.declared.Course.the-variants.{Stay, Beyond, To, Along}
@@ -33,7 +33,7 @@ use Rattle.table.proofs.TableLaws.{sound-length, sound-motor-at}
 use Rattle.urqolina.specs.Calls.{tickCall}
 use Rattle.laws.specs.Sequences.{urqolina, Call, command, reading, tick, after}
 use Rattle.laws.specs.Deeds.{Deed, starts, stops, speeds, sets, reads, ticks, rests, deedIf, orderTaken, deedOf, deedTaken, deed}
-use Rattle.laws.specs.Ledger.{countAt, cwPulses, ccwPulses, Travel, resetBy, moving}
+use Rattle.laws.specs.Ledger.{countAt, cwPulses, ccwPulses, Travel, resetBy, travelled}
 use Rattle.laws.proofs.PartLaws.{counts-part}
 use Rattle.laws.proofs.DeedLaws.{performed}
 
@@ -179,13 +179,13 @@ set-kept m j (SetMotor q) h = h
 
 -- Whatever a deed does, the place is the preset, and the pulses since.
 pub performed-kept : (m : Motor) (d : Deed) (n : ℕ) (j : Travel) → soundMotor m ≡ true → (d ≡ ticks → n ≡ tickCount m) → Kept m j
-    → Kept (performed m d) (moving n j d)
-unfolding performed moving stopped speedChanged switchRead
+    → Kept (performed m d) (travelled n j d)
+unfolding performed travelled stopped speedChanged switchRead
 performed-kept m (starts s) n j o p h = rw (started-place m (courseOf m s)) h
-performed-kept m (stops flags) n j o p h = rw (either-place (driving m) (endedWith flags m) m (m .place) refl refl) h
+performed-kept m (stops flags) n j o p h = rw (either-place (busy m) (endedWith flags m) m (m .place) refl refl) h
 performed-kept m (speeds v) n j o p h = h
 performed-kept m (sets s) n j o p h = set-kept m j s h
 performed-kept m (reads c) n j o p h =
-    rw (either-place (driving m && blocked (m .drive .going) (contacted m c)) (endedWith lsend (contacted m c)) (contacted m c) (m .place) refl refl) h
+    rw (either-place (busy m && blocked (m .drive .going) (contacted m c)) (endedWith lsend (contacted m c)) (contacted m c) (m .place) refl refl) h
 performed-kept m ticks n j o p h = rw (p refl) (omega (arith, tick-moves m o, h))
 performed-kept m rests n j o p h = h

@@ -3,12 +3,12 @@
 use Rattle.urqolina.specs.Computing.{computing-urqolina}
 use Rattle.laws.specs.Sequences.{after, run, never}
 use Rattle.laws.specs.Deeds.{orderTaken, names, deedOf, deed, ticksIn}
-use Rattle.laws.specs.Ledger.{cwPulses, ccwPulses, setsOff, wayOf, booked, entered, account, moving, travel, settled, settings}
+use Rattle.laws.specs.Ledger.{cwPulses, ccwPulses, setsOff, wayOf, booked, entered, account, travelled, travel, settled, settings}
 use Rattle.laws.specs.Numbers.{asks}
 use Rattle.laws.specs.Neighbours.{ofHead}
 use Rattle.laws.specs.ReadBack.{questionFor, textFor, topic, changedBy, changes, modeOrder, replyOrder}
 use Rattle.laws.specs.Pulses.{disturbs}
 
 unfoldable pub computing-laws : Unit {0}
-unfolding computing-urqolina after run never orderTaken names deedOf deed ticksIn cwPulses ccwPulses setsOff wayOf booked entered account moving travel settled settings asks ofHead questionFor textFor topic changedBy changes modeOrder replyOrder disturbs
+unfolding computing-urqolina after run never orderTaken names deedOf deed ticksIn cwPulses ccwPulses setsOff wayOf booked entered account travelled travel settled settings asks ofHead questionFor textFor topic changedBy changes modeOrder replyOrder disturbs
 computing-laws = tt

@@ -8,7 +8,7 @@ use Rattle.digits.specs.Bytes.{part}
 use Rattle.digits.specs.Words.{word}
 use Rattle.digits.specs.Places.{origin, cw}
 use Rattle.record.specs.declared.Motor.{Motor}
-use Rattle.motor.specs.Sound.{driving}
+use Rattle.motor.specs.Sound.{busy}
 use Rattle.drive.specs.Drives.{selectedSpeed, towards, contacted}
 use Rattle.line.specs.declared.Start.{Start}
 use Rattle.line.specs.declared.Start.the-variants.{Abs, Rel, Scan, Jog}
@@ -80,7 +80,7 @@ booked m n a rests = a
 
 -- a drive ends where the channel stands stopped after a call
 abbrev pub closed : Motor → Account → Account
-closed m a = record { lasts = a .lasts && driving m; going = a .going; speed = a .speed; sum = a .sum; pulses = a .pulses }
+closed m a = record { lasts = a .lasts && busy m; going = a .going; speed = a .speed; sum = a .sum; pulses = a .pulses }
 
 -- the account after one call on a table
 unfoldable pub entered : Library → ℕ → List ℕ → Account → Call → Account
@@ -115,21 +115,21 @@ resetBy j (SetSwitches q r) = j
 resetBy j (SetMotor q) = j
 
 -- what a deed is to the way, with the channel's count n in the pulse buffer
-unfoldable pub moving : ℕ → Travel → Deed → Travel
-moving n j (starts s) = j
-moving n j (stops flags) = j
-moving n j (speeds v) = j
-moving n j (sets s) = resetBy j s
-moving n j (reads contacts) = j
-moving n j ticks = record { preset = j .preset; cw = j .cw + cwPulses n; ccw = j .ccw + ccwPulses n }
-moving n j rests = j
+unfoldable pub travelled : ℕ → Travel → Deed → Travel
+travelled n j (starts s) = j
+travelled n j (stops flags) = j
+travelled n j (speeds v) = j
+travelled n j (sets s) = resetBy j s
+travelled n j (reads contacts) = j
+travelled n j ticks = record { preset = j .preset; cw = j .cw + cwPulses n; ccw = j .ccw + ccwPulses n }
+travelled n j rests = j
 
 -- the way of channel c after a sequence of calls on a table
 unfoldable pub travel : Library → ℕ → List ℕ → Travel → List Call → Travel
 travel l c t j [] = j
 travel l c t j (k ∷ ks) =
     let u = after l t k in
-    travel l c (u .table) (moving (countAt (u .buffer) c) j (deed c t k)) ks
+    travel l c (u .table) (travelled (countAt (u .buffer) c) j (deed c t k)) ks
 
 -- the settings of a channel: what an accepted setting makes of them, and "A switch reading replaces the contacts"; nothing else
 -- changes any

@@ -8,7 +8,7 @@ use Rattle.digits.specs.Places.{ahead}
 use Rattle.record.specs.declared.Motor.{Motor}
 use Rattle.record.specs.Record.{freshMotor}
 use Rattle.motor.specs.Switches.{room, blocked}
-use Rattle.motor.specs.Sound.{driving}
+use Rattle.motor.specs.Sound.{busy}
 use Rattle.drive.specs.declared.Course.the-variants.{To}
 use Rattle.drive.specs.Drives.{lsend, selectedSpeed, towards}
 use Rattle.pulses.specs.Ticks.{roundedUp, toTarget, distanceLeft, roomLeft}
@@ -63,23 +63,23 @@ module _ (l : Library) (b : List ℕ) (c : ℕ) (ks : List Call) where
     -- "and while the drive lasts the sum is less than a thousand above it"
     pub neverLess : accountNow .lasts ≡ true → accountNow .sum < 1000 * accountNow .pulses + 1000
     -- "each drive that demand 2 starts": an accepted start drives, and nothing drives but such a drive
-    pub starting : (k : Call) (s : Start) → deed c tableNow k ≡ starts s → setsOff motorNow s ≡ true → driving (motorNext k) ≡ true
-    pub lasting : accountNow .lasts ≡ driving motorNow
+    pub starting : (k : Call) (s : Start) → deed c tableNow k ≡ starts s → setsOff motorNow s ≡ true → busy (motorNext k) ≡ true
+    pub lasting : accountNow .lasts ≡ busy motorNow
     -- "the speeds in force": the account's speed is the one that the table holds
     pub speed : accountNow .lasts ≡ true → accountNow .speed ≡ motorNow .drive .speed
     -- "CW positive": the pulses of a drive go its way
     pub oneWay : accountNow .lasts ≡ true → (p : List ℕ) → length p ≡ 64 → against (accountNow .going) (countAt (l .tick tableNow p .pulses) c) ≡ 0
     -- a drive lasts until something ends it, and a stop or an active switch does: "A stop ends the drive at once"
-    pub ending : (k : Call) → driving motorNow ≡ true → driving (motorNext k) ≡ false → Ends k
-    pub stopping : (k : Call) (flags : ℕ) → deed c tableNow k ≡ stops flags → driving (motorNext k) ≡ false
-    pub switching : (k : Call) (n : ℕ) → deed c tableNow k ≡ reads n → blocked (motorNow .drive .going) (motorNext k) ≡ true → driving (motorNext k) ≡ false
+    pub ending : (k : Call) → busy motorNow ≡ true → busy (motorNext k) ≡ false → Ends k
+    pub stopping : (k : Call) (flags : ℕ) → deed c tableNow k ≡ stops flags → busy (motorNext k) ≡ false
+    pub switching : (k : Call) (n : ℕ) → deed c tableNow k ≡ reads n → blocked (motorNow .drive .going) (motorNext k) ≡ true → busy (motorNext k) ≡ false
     -- "Pulses given are the least of due, room and, for a target, the distance left": no tick goes past either
-    pub within : driving motorNow ≡ true → (p : List ℕ) → length p ≡ 64 → let n = countAt (l .tick tableNow p .pulses) c in
+    pub within : busy motorNow ≡ true → (p : List ℕ) → length p ≡ 64 → let n = countAt (l .tick tableNow p .pulses) c in
         (cwPulses n + ccwPulses n ≤ roomLeft motorNow) × (toTarget motorNow ≡ true → cwPulses n + ccwPulses n ≤ distanceLeft motorNow)
     -- the end flags stay until the next start
-    pub flags : (k : Call) → driving motorNow ≡ false → driving (motorNext k) ≡ false → motorNext k .ended ≡ motorNow .ended
+    pub flags : (k : Call) → busy motorNow ≡ false → busy (motorNext k) ≡ false → motorNext k .ended ≡ motorNow .ended
     -- "A motor that stands stopped when the tick comes gets none."
-    pub none : driving motorNow ≡ false → (p : List ℕ) → length p ≡ 64 → countAt (l .tick tableNow p .pulses) c ≡ 0
+    pub none : busy motorNow ≡ false → (p : List ℕ) → length p ≡ 64 → countAt (l .tick tableNow p .pulses) c ≡ 0
     -- "Each channel's position is its last accepted preset, or zero, plus the CW pulses given since, less the CCW pulses."
     pub position : motorNow .place + travelNow .ccw ≡ travelNow .preset + travelNow .cw
 
@@ -123,9 +123,9 @@ module _ (l : Library) (b : List ℕ) (c : ℕ) (ks : List Call) (k : Call) (p :
 
   pub record LastTick : Type 0 where
     -- it drives as long as fewer ticks have come
-    pub before : Undisturbed → ticksIn later < lastTick → driving (motorAt tableLater c) ≡ true
+    pub before : Undisturbed → ticksIn later < lastTick → busy (motorAt tableLater c) ≡ true
     -- and with that tick it stands stopped at its target, with end flags 0
     pub with :
         Undisturbed → ticksIn later + 1 ≡ lastTick → (pulses : List ℕ) → length pulses ≡ 64
-        → (driving (motorAt (l .tick tableLater pulses .table) c) ≡ false) × (motorAt (l .tick tableLater pulses .table) c .place ≡ p)
+        → (busy (motorAt (l .tick tableLater pulses .table) c) ≡ false) × (motorAt (l .tick tableLater pulses .table) c .place ≡ p)
         × (motorAt (l .tick tableLater pulses .table) c .ended ≡ 0)

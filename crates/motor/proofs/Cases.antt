@@ -71,7 +71,7 @@ soundness = (refl, refl, refl, refl, refl, refl, refl, refl, refl, refl, refl, r
 
 -- Of a driving record: end flags 0, A = 1, a pulse of room, no active enabled switch ahead, a target strictly ahead or, for
 -- a scan, target 0, and a speed in force.
-driving-soundness :
+busy-soundness :
     (soundRecord driving-bytes ≡ true) × (damaged driving-bytes 31 (0x20 ∷ []) ≡ false)
     × (damaged driving-bytes 27 (0 ∷ []) ≡ false) × (damaged driving-bytes 0 (0xff ∷ 0xff ∷ 0xff ∷ 0x7f ∷ []) ≡ false)
     × (map (λ n. damaged driving-bytes 26 (n ∷ [])) (1 ∷ 2 ∷ 4 ∷ []) ≡ false ∷ true ∷ true ∷ [])
@@ -82,4 +82,4 @@ driving-soundness :
     × (map (λ n. damaged driving-bytes 36 (wordBytes 4 n)) (0 ∷ 1 ∷ 5000000 ∷ 5000001 ∷ []) ≡ false ∷ true ∷ true ∷ false ∷ [])
     × (soundRecord [] ≡ false) × (soundRecord (driving-bytes ++ (0 ∷ [])) ≡ false)
 unfolding computing-motor damaged driving-bytes underway
-driving-soundness = (refl, refl, refl, refl, refl, refl, refl, refl, refl, refl, refl, refl)
+busy-soundness = (refl, refl, refl, refl, refl, refl, refl, refl, refl, refl, refl, refl)

@@ -11,15 +11,15 @@ use Rattle.digits.specs.Bytes.{AllBytes, part, allZero}
 use Rattle.record.specs.declared.Motor.{Motor}
 use Rattle.record.specs.Record.{motorOf, recordOf}
 use Rattle.record.proofs.RoundTrip.{FitsRecord, FitsBytes, written-read, read-written, record-length, record-bytes, rest-part}
-use Rattle.motor.specs.Sound.{driving, soundMotor, soundRecord}
-use Rattle.motor.proofs.SoundLaws.{and-l, and-r, sound-bounds, sound-driving, sound-standing}
+use Rattle.motor.specs.Sound.{busy, soundMotor, soundRecord}
+use Rattle.motor.proofs.SoundLaws.{and-l, and-r, sound-bounds, sound-busy, sound-standing}
 
 -- The speed in force of a sound motor is 5,000,000 at most, driving or not.
 speed-in-force : (m : Motor) → soundMotor m ≡ true → m .drive .speed ≤ 5000000
-speed-in-force m s = go (driving m) refl
+speed-in-force m s = go (busy m) refl
   where
-    go : (t : Bool) → driving m ≡ t → m .drive .speed ≤ 5000000
-    go true d = sound-driving m s d .fastest
+    go : (t : Bool) → busy m ≡ t → m .drive .speed ≤ 5000000
+    go true d = sound-busy m s d .fastest
     go false d = rw (sound-standing m s d) (omega arith)
 
 -- The numbers of a sound motor fit the bytes that they are written in.

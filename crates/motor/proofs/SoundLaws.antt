@@ -11,7 +11,7 @@ use Rattle.record.specs.declared.Drive.{Drive}
 use Rattle.record.specs.declared.Motor.{Motor}
 use Rattle.record.specs.Record.{standing}
 use Rattle.motor.specs.Switches.{blocked, room}
-use Rattle.motor.specs.Sound.{isSpeed, limitsInRange, speedsInRange, wiringInRange, setupInRange, endFlagsInRange, driveInRange, settingsInRange, inRange, atRest, aimRight, underWay, driving, soundMotor}
+use Rattle.motor.specs.Sound.{isSpeed, limitsInRange, speedsInRange, wiringInRange, setupInRange, endFlagsInRange, driveInRange, settingsInRange, inRange, atRest, aimRight, underWay, busy, soundMotor}
 
 -- Of a conjunction that holds, both parts hold.
 pub and-l : (a b : Bool) → (a && b) ≡ true → a ≡ true
@@ -73,7 +73,7 @@ parts-way m w = cc (eq-eqb _ _ (w .flags), eq-eqb _ _ (w .ready), le-leb _ _ (w 
 -- a sound motor in its parts: its fields, and the rules for a stopped or for a driving record
 pub record Sound (m : Motor) : Type 0 where
   pub range : InRange m
-  pub way : cond (driving m) (underWay m) (atRest (m .drive)) ≡ true
+  pub way : cond (busy m) (underWay m) (atRest (m .drive)) ≡ true
 
 -- A sound motor is sound in its parts, and the other way round.
 pub sound-parts : (m : Motor) → soundMotor m ≡ true → Sound m
@@ -85,11 +85,11 @@ unfolding soundMotor
 parts-sound m s = cc (parts-range m (s .range))
 
 -- A sound motor that drives keeps the rules for a driving record, and one with its fields in range that keeps them is sound.
-pub sound-driving : (m : Motor) → soundMotor m ≡ true → driving m ≡ true → UnderWay m
-sound-driving m e d = way-parts m (rw d at (sound-parts m e .way))
+pub sound-busy : (m : Motor) → soundMotor m ≡ true → busy m ≡ true → UnderWay m
+sound-busy m e d = way-parts m (rw d at (sound-parts m e .way))
 
-pub driving-sound : (m : Motor) → InRange m → UnderWay m → driving m ≡ true → soundMotor m ≡ true
-driving-sound m r w d = parts-sound m (record { range = r; way = rw d (parts-way m w) })
+pub busy-sound : (m : Motor) → InRange m → UnderWay m → busy m ≡ true → soundMotor m ≡ true
+busy-sound m r w d = parts-sound m (record { range = r; way = rw d (parts-way m w) })
 
 -- A sound motor that is stopped has no drive, and one with its fields in range that has none is sound.
 no-drive : (g k f v t : ℕ) → g ≡ 0 → k ≡ 0 → f ≡ 0 → v ≡ 0 → t ≡ origin
@@ -102,7 +102,7 @@ at-rest d g r =
     no-drive (d .going) (d .kind) (d .fraction) (d .speed) (d .target) g (search (and-l, and-r, eqb-true))
     (search (and-l, and-r, eqb-true)) (search (and-l, and-r, eqb-true)) (search (and-l, and-r, eqb-true))
 
-pub sound-standing : (m : Motor) → soundMotor m ≡ true → driving m ≡ false → m .drive ≡ standing
+pub sound-standing : (m : Motor) → soundMotor m ≡ true → busy m ≡ false → m .drive ≡ standing
 sound-standing m e d = at-rest (m .drive) (eqb-true _ _ (not-false _ d)) (rw d at (sound-parts m e .way))
 
 pub standing-sound : (m : Motor) → InRange m → m .drive ≡ standing → soundMotor m ≡ true
@@ -167,7 +167,7 @@ unfolding driveInRange
 bounds-drive d g k f t = cc (le-leb _ _ g, le-leb _ _ k, le-leb _ _ f)
 
 -- A motor that drives goes CW or CCW.
-pub going-way : (m : Motor) → InRange m → driving m ≡ true → (m .drive .going ≡ cw) ⊎ (m .drive .going ≡ ccw)
+pub going-way : (m : Motor) → InRange m → busy m ≡ true → (m .drive .going ≡ cw) ⊎ (m .drive .going ≡ ccw)
 going-way m r d = go (eqb (m .drive .going) cw) refl
   where
     go : (t : Bool) → eqb (m .drive .going) cw ≡ t → (m .drive .going ≡ cw) ⊎ (m .drive .going ≡ ccw)

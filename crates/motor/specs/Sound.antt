@@ -73,13 +73,13 @@ underWay m =
     eqb (m .ended) 0 && eqb (m .setup .a) 1 && isSpeed (m .drive .speed)
     && (leb 1 (room (m .drive .going) m) && not (blocked (m .drive .going) m) && aimRight m)
 
--- "0 stopped": a record drives when it is not stopped
-abbrev pub driving : Motor → Bool
-driving m = not (eqb (m .drive .going) 0)
+-- "0 stopped": a motor is busy when it is not stopped
+abbrev pub busy : Motor → Bool
+busy m = not (eqb (m .drive .going) 0)
 
 -- a motor is sound: its fields are in range, and it keeps the rules for a stopped or for a driving record
 unfoldable pub soundMotor : Motor → Bool
-soundMotor m = inRange m && cond (driving m) (underWay m) (atRest (m .drive))
+soundMotor m = inRange m && cond (busy m) (underWay m) (atRest (m .drive))
 
 -- a record is sound: 64 bytes, a sound motor in them, and "every byte given as zero is zero", 44 to 63
 unfoldable pub soundRecord : List ℕ → Bool

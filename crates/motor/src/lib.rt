@@ -31,7 +31,7 @@ ghost use Rattle.record.specs.Record.{motorOf};
 ghost use Rattle.motor.specs.Switches.{switchOf, active, blocked, edge, room};
 ghost use Rattle.motor.specs.Sound.{isSpeed, limitsInRange, wiringInRange, setupInRange, settingsInRange};
 ghost use Rattle.motor.specs.Sound.{endFlagsInRange, driveInRange, atRest, underWay};
-ghost use Rattle.motor.specs.Sound.{driving, soundRecord};
+ghost use Rattle.motor.specs.Sound.{busy, soundRecord};
 
 // The switch that a direction runs into, by its bit: 0 CW, 1 CCW.
 fn switch_of(going: u8) -> u8
@@ -233,20 +233,20 @@ fn under_way(m: Motor) -> bool
     }
 }
 
-// Whether a motor drives.
-pub fn is_driving(m: Motor) -> bool
-    ensures { λ r. ⌜ r ≡ driving m ⌝ }
+// Whether a motor is busy: it is not stopped.
+pub fn is_busy(m: Motor) -> bool
+    ensures { λ r. ⌜ r ≡ busy m ⌝ }
 {
     !(m.drive.going == 0)
 }
 
 // Whether the drive of a motor whose other fields are sound is sound.
 fn drive_sound(m: Motor) -> bool
-    ensures { λ r. ⌜ r ≡ (driveInRange (m .drive) && cond (driving m) (underWay m) (atRest (m .drive))) ⌝ }
+    ensures { λ r. ⌜ r ≡ (driveInRange (m .drive) && cond (busy m) (underWay m) (atRest (m .drive))) ⌝ }
 {
     let drive = m.drive;
     if drive_in_range(drive) {
-        if is_driving(m) {
+        if is_busy(m) {
             under_way(m)
         } else {
             at_rest(drive)

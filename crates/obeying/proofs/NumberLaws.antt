@@ -8,7 +8,7 @@ use native.Mathlib.Omega.{arith}
 use lib.Dec.{eqb}
 use Rattle.record.specs.declared.Motor.{Motor}
 use Rattle.motor.specs.Switches.{blocked, room}
-use Rattle.motor.specs.Sound.{driving}
+use Rattle.motor.specs.Sound.{busy}
 use Rattle.drive.specs.declared.Course.{Course}
 use Rattle.drive.specs.declared.Course.the-variants.{Stay, Beyond, To, Along}
 use Rattle.drive.specs.declared.Verdict.{Verdict}
@@ -22,7 +22,7 @@ use Rattle.line.specs.declared.Parsed.the-variants.{Is, Nothing}
 use Rattle.table.specs.Layout.{mode, motorAt}
 use Rattle.orders.specs.Values.{needsRemote, valueInRange}
 use Rattle.orders.specs.Settings.{courseOf}
-use Rattle.commands.specs.Judging.{busy, judgeMotor, judge}
+use Rattle.commands.specs.Judging.{meetsBusy, judgeMotor, judge}
 use Rattle.obeying.specs.Taking.{refused, obeyed, taken}
 
 -- No number is above 6.
@@ -45,11 +45,11 @@ pub judged-value : (t : List ℕ) (o : Order) → numberOf (judge t o) ≡ 0 →
 unfolding judge numberOf
 judged-value t o e = local (needsRemote o && eqb (mode t) 0) e
   where
-    ranged : (b : Bool) → valueInRange o ≡ b → numberOf (cond (not b) OutOfRange (cond (busy t o) Busy (judgeMotor t o))) ≡ 0 → valueInRange o ≡ true
+    ranged : (b : Bool) → valueInRange o ≡ b → numberOf (cond (not b) OutOfRange (cond (meetsBusy t o) Busy (judgeMotor t o))) ≡ 0 → valueInRange o ≡ true
     ranged true h e = h
     ranged false h e = absurd (omega (arith, e))
 
-    local : (b : Bool) → numberOf (cond b LocalMode (cond (not (valueInRange o)) OutOfRange (cond (busy t o) Busy (judgeMotor t o)))) ≡ 0
+    local : (b : Bool) → numberOf (cond b LocalMode (cond (not (valueInRange o)) OutOfRange (cond (meetsBusy t o) Busy (judgeMotor t o)))) ≡ 0
         → valueInRange o ≡ true
     local true e = absurd (omega (arith, e))
     local false e = ranged (valueInRange o) refl e
@@ -79,7 +79,7 @@ unfolding judgeMotor numberOf
 motor-number t (Go x s) = start-number (motorAt t x) (courseOf (motorAt t x) s)
 motor-number t (Stop x e) = omega arith
 motor-number t (StopAll e) = omega arith
-motor-number t (ChangeSpeed x v) = either (driving (motorAt t x)) Done NotDriving (omega arith) (omega arith)
+motor-number t (ChangeSpeed x v) = either (busy (motorAt t x)) Done NotDriving (omega arith) (omega arith)
 motor-number t (Set x s) = omega arith
 motor-number t (Ask x q) = omega arith
 motor-number t (Mode k) = omega arith
@@ -92,11 +92,11 @@ motor-number t (ClearError e) = omega arith
 pub judge-number : (t : List ℕ) (o : Order) → numberOf (judge t o) ≤ 4
 unfolding judge numberOf
 judge-number t o =
-    let free : Verdict = cond (busy t o) Busy (judgeMotor t o) in
+    let free : Verdict = cond (meetsBusy t o) Busy (judgeMotor t o) in
     let valued : Verdict = cond (not (valueInRange o)) OutOfRange free in
     either (needsRemote o && eqb (mode t) 0) LocalMode valued (omega arith)
     (either (not (valueInRange o)) OutOfRange free (omega arith)
-    (either (busy t o) Busy (judgeMotor t o) (omega arith) (motor-number t o)))
+    (either (meetsBusy t o) Busy (judgeMotor t o) (omega arith) (motor-number t o)))
 
 -- "The command's result is the number plus 256 times the reply length."
 refused-number : (t : List ℕ) (v : Verdict) (reply : List ℕ) → numberOf v ≤ 4 → refused t v reply .result % 256 ≤ 4

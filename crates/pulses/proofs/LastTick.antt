@@ -10,8 +10,8 @@ use Rattle.digits.specs.Places.{isPosition, moved, ahead}
 use Rattle.record.specs.declared.Motor.{Motor}
 use Rattle.record.specs.Record.{withPlace, withDrive}
 use Rattle.motor.specs.Switches.{edge, room}
-use Rattle.motor.specs.Sound.{aimRight, driving, soundMotor}
-use Rattle.motor.proofs.SoundLaws.{and-r, sound-driving, sound-bounds}
+use Rattle.motor.specs.Sound.{aimRight, busy, soundMotor}
+use Rattle.motor.proofs.SoundLaws.{and-r, sound-busy, sound-bounds}
 use Rattle.motor.proofs.RoomLaws.{moved-none, moved-twice, ahead-moved, moved-ahead, room-moved}
 use Rattle.pulses.specs.declared.Ticked.{Ticked}
 use Rattle.drive.specs.declared.Course.the-variants.{To}
@@ -40,10 +40,10 @@ ticks-sum zero k m = rw (zero-add, ticks-none)
 ticks-sum (suc j) k m = sum-more j k m (ticks-sum j k m)
 
 -- Ticks leave a stopped motor as it is, and a sound motor sound.
-rest-more : (k : ℕ) (m : Motor) → driving m ≡ false → ticks k m ≡ m → ticks (suc k) m ≡ m
+rest-more : (k : ℕ) (m : Motor) → busy m ≡ false → ticks k m ≡ m → ticks (suc k) m ≡ m
 rest-more k m d e = rw (ticks-more, e, stopped-given-none)
 
-pub ticks-rest : (k : ℕ) (m : Motor) → driving m ≡ false → ticks k m ≡ m
+pub ticks-rest : (k : ℕ) (m : Motor) → busy m ≡ false → ticks k m ≡ m
 ticks-rest zero m d = ticks-none m
 ticks-rest (suc k) m d = rest-more k m d (ticks-rest k m d)
 
@@ -77,7 +77,7 @@ driven-more t v m =
 
 -- a drive to a target that lies ahead, within room, with a fraction and a speed in their ranges
 pub record OnCourse (m : Motor) : Type 0 where
-  pub drives : driving m ≡ true
+  pub drives : busy m ≡ true
   pub aimed : toTarget m ≡ true
   pub before : 1 ≤ distanceLeft m
   pub within : distanceLeft m ≤ roomLeft m
@@ -86,10 +86,10 @@ pub record OnCourse (m : Motor) : Type 0 where
 
 -- A sound drive to a target has the target ahead.
 pub sound-on-course :
-    (m : Motor) → soundMotor m ≡ true → driving m ≡ true → toTarget m ≡ true → distanceLeft m ≤ roomLeft m → OnCourse m
+    (m : Motor) → soundMotor m ≡ true → busy m ≡ true → toTarget m ≡ true → distanceLeft m ≤ roomLeft m → OnCourse m
 unfolding aimRight distanceLeft
 sound-on-course m s d t w =
-    let u = sound-driving m s d in
+    let u = sound-busy m s d in
     record { drives = d; aimed = t; before = leb-true 1 _ (rw t at (u .aim)); within = w; carries = omega (arith, sound-bounds m s .fraction); moves = u .slowest }
 
 -- On its way such a drive stays such a drive, with as many pulses less to go as it has been driven.
@@ -112,7 +112,7 @@ on-course-driven t m b h =
 
 -- One tick of such a drive, whatever its fraction: while the fraction and the speed do not make up the distance, it goes on;
 -- once they do, it arrives.
-speed-in-force : (m : Motor) → driving m ≡ true → tickSpeed m ≡ m .drive .speed
+speed-in-force : (m : Motor) → busy m ≡ true → tickSpeed m ≡ m .drive .speed
 unfolding tickSpeed
 speed-in-force m d = rw d
 
@@ -190,7 +190,7 @@ rounded-covers a v p = omega (arith, lt-div-mul-add {a = a + (v - 1)} {b = v} p)
 -- Such a drive with a fraction lasts before tick (D·1000 less the fraction)/v rounded up, and has arrived with it.
 pub lasts-before :
     (m : Motor) → OnCourse m → (k : ℕ) → k < roundedUp (distanceLeft m * 1000 - m .drive .fraction) (m .drive .speed)
-    → driving (ticks k m) ≡ true
+    → busy (ticks k m) ≡ true
 lasts-before m b k h =
     let under = below-rounded (distanceLeft m * 1000 - m .drive .fraction) (m .drive .speed) k (b .moves) h in
     rw (ticks-go k m b (omega arith)) (b .drives)
@@ -214,11 +214,11 @@ arrives-with m b = go (roundedUp a v) refl
 
 -- "A drive to a target at distance D and speed v, with no stop, SPC or switch reading on its channel and D within room, ends
 -- at tick D·1000/v rounded up": it drives before that tick; with it, it stands stopped at its target, with end flags 0.
-module _ (m : Motor) (s : soundMotor m ≡ true) (d : driving m ≡ true) (t : toTarget m ≡ true) (f : m .drive .fraction ≡ 0) (w : distanceLeft m ≤ roomLeft m) where
+module _ (m : Motor) (s : soundMotor m ≡ true) (d : busy m ≡ true) (t : toTarget m ≡ true) (f : m .drive .fraction ≡ 0) (w : distanceLeft m ≤ roomLeft m) where
   no-fraction : distanceLeft m * 1000 - m .drive .fraction ≡ distanceLeft m * 1000
   no-fraction = omega arith
 
-  pub drives-before : (k : ℕ) → k < roundedUp (distanceLeft m * 1000) (m .drive .speed) → driving (ticks k m) ≡ true
+  pub drives-before : (k : ℕ) → k < roundedUp (distanceLeft m * 1000) (m .drive .speed) → busy (ticks k m) ≡ true
   drives-before k h = lasts-before m (sound-on-course m s d t w) k (rw no-fraction h)
 
   pub last-tick : ticks (roundedUp (distanceLeft m * 1000) (m .drive .speed)) m ≡ arrived m
@@ -226,20 +226,20 @@ module _ (m : Motor) (s : soundMotor m ≡ true) (d : driving m ≡ true) (t : t
 
   pub ends-stopped :
       (k : ℕ) → k ≡ roundedUp (distanceLeft m * 1000) (m .drive .speed)
-      → (driving (ticks k m) ≡ false) × (ticks k m .place ≡ m .drive .target) × (ticks k m .ended ≡ 0)
+      → (busy (ticks k m) ≡ false) × (ticks k m .place ≡ m .drive .target) × (ticks k m .ended ≡ 0)
   ends-stopped k e = rw (e, last-tick) (refl, refl, refl)
 
 -- The same of a drive from its start on: an accepted start of a sound motor to a place at distance D within room, at the
 -- selected speed.
 module _ (m : Motor) (p : ℕ) (s : soundMotor m ≡ true) (h : judgeStart m (To p) ≡ Done) (a : wellAimed m (To p) ≡ true) (w : ahead (towards m p) (m .place) p ≤ room (towards m p) m) where
-  started-drives : driving (started m (To p)) ≡ true
+  started-drives : busy (started m (To p)) ≡ true
   unfolding started
   started-drives =
       let t = towards-ahead m p (not-true _ (and-r (isPosition p) _ a)) in
       rw (ne-eqb (towards m p) 0 (omega arith))
 
   pub started-drives-before :
-      (k : ℕ) → k < roundedUp (ahead (towards m p) (m .place) p * 1000) (selectedSpeed m) → driving (ticks k (started m (To p))) ≡ true
+      (k : ℕ) → k < roundedUp (ahead (towards m p) (m .place) p * 1000) (selectedSpeed m) → busy (ticks k (started m (To p))) ≡ true
   unfolding started distanceLeft room edge
   started-drives-before = drives-before (started m (To p)) (started-sound m (To p) s h a) started-drives refl refl w
 

@@ -7,7 +7,7 @@ use native.Mathlib.Omega.{arith}
 use lib.Dec.{eqb}
 use Rattle.digits.specs.Places.{cw, countOf}
 use Rattle.record.specs.declared.Motor.{Motor}
-use Rattle.motor.specs.Sound.{driving}
+use Rattle.motor.specs.Sound.{busy}
 use Rattle.pulses.specs.Ticks.{tickSpeed, due, rest, toTarget, distanceLeft, roomLeft, given, tickMotor, tickCount}
 
 -- Nothing is rounded: what is due and what is carried are the fraction and the speed, to the thousandth, and less than a
@@ -38,7 +38,7 @@ unfolding given
 given-distance m e = rw e (omega arith)
 
 -- A motor that stands stopped gets no pulse and stays as it is.
-pub stopped-given-none : (m : Motor) → driving m ≡ false → tickMotor m ≡ record { motor = m; pulses = 0 }
+pub stopped-given-none : (m : Motor) → busy m ≡ false → tickMotor m ≡ record { motor = m; pulses = 0 }
 unfolding tickMotor
 stopped-given-none m e = rw e
 
@@ -51,6 +51,6 @@ none-counted going = go (eqb going cw)
     go true = refl
     go false = refl
 
-pub stopped-count : (m : Motor) → driving m ≡ false → tickCount m ≡ 0
+pub stopped-count : (m : Motor) → busy m ≡ false → tickCount m ≡ 0
 unfolding tickCount
 stopped-count m e = rw (stopped-given-none m e) (none-counted _)

@@ -9,7 +9,7 @@ use borrow.Author.Tests.{leb-true, leb-false, eqb-true, eqb-false}
 use Rattle.digits.specs.Places.{moved}
 use Rattle.record.specs.declared.Motor.{Motor}
 use Rattle.record.specs.Record.{standing}
-use Rattle.motor.specs.Sound.{driving}
+use Rattle.motor.specs.Sound.{busy}
 use Rattle.motor.proofs.RoomLaws.{moved-none}
 use Rattle.pulses.specs.declared.Ticked.{Ticked}
 use Rattle.drive.specs.Drives.{endedWith, lsend}
@@ -59,17 +59,17 @@ room-not m e = omega (arith, eqb-false (given m) (roomLeft m) e, given-room m)
 
 -- the four ways that a tick can go, for proofs: the motor rests, arrives at its target, ends with its room, or goes on
 pub data Way (m : Motor) : Ticked → Type 0 where
-  rests : driving m ≡ false → Way m (record { motor = m; pulses = 0 })
-  arrives : driving m ≡ true → reached m ≡ true → Way m (record { motor = endedWith 0 (advanced m); pulses = given m })
-  ends : driving m ≡ true → reached m ≡ false → usedUp m ≡ true → Way m (record { motor = endedWith lsend (advanced m); pulses = given m })
-  goes : driving m ≡ true → reached m ≡ false → usedUp m ≡ false → Way m (record { motor = goesOn m; pulses = given m })
+  rests : busy m ≡ false → Way m (record { motor = m; pulses = 0 })
+  arrives : busy m ≡ true → reached m ≡ true → Way m (record { motor = endedWith 0 (advanced m); pulses = given m })
+  ends : busy m ≡ true → reached m ≡ false → usedUp m ≡ true → Way m (record { motor = endedWith lsend (advanced m); pulses = given m })
+  goes : busy m ≡ true → reached m ≡ false → usedUp m ≡ false → Way m (record { motor = goesOn m; pulses = given m })
 
 -- Every tick goes one of them.
 pub way : (m : Motor) → Way m (tickMotor m)
 unfolding tickMotor drivenOn
-way m = go (driving m) refl (reached m) refl (usedUp m) refl
+way m = go (busy m) refl (reached m) refl (usedUp m) refl
   where
-    go : (d : Bool) → driving m ≡ d → (r : Bool) → reached m ≡ r → (u : Bool) → usedUp m ≡ u
+    go : (d : Bool) → busy m ≡ d → (r : Bool) → reached m ≡ r → (u : Bool) → usedUp m ≡ u
         → Way m (cond d (record { motor = cond r (endedWith 0 (advanced m)) (cond u (endedWith lsend (advanced m)) (goesOn m)); pulses = given m }) (record { motor = m; pulses = 0 }))
     go false d r er u eu = rests d
     go true d true r u eu = arrives d r
@@ -87,11 +87,11 @@ goes-due m r u = go (given-least m)
 
 -- Nothing is lost while the drive lasts: the pulses given and the fraction kept are the old fraction and the speed.
 pub carried :
-    (m : Motor) → driving (tickMotor m .motor) ≡ true
+    (m : Motor) → busy (tickMotor m .motor) ≡ true
     → 1000 * tickMotor m .pulses + tickMotor m .motor .drive .fraction ≡ m .drive .fraction + tickSpeed m
 carried m = go (way m)
   where
-    go : {t : Ticked} → Way m t → driving (t .motor) ≡ true → 1000 * t .pulses + t .motor .drive .fraction ≡ m .drive .fraction + tickSpeed m
+    go : {t : Ticked} → Way m t → busy (t .motor) ≡ true → 1000 * t .pulses + t .motor .drive .fraction ≡ m .drive .fraction + tickSpeed m
     go (rests d) h = cc
     go (arrives d r) h = cc
     go (ends d r u) h = cc
@@ -143,10 +143,10 @@ pub record SameDrive (m n : Motor) : Type 0 where
   pub speed : n .drive .speed ≡ m .drive .speed
   pub target : n .drive .target ≡ m .drive .target
 
-pub drive-stays : (m : Motor) → driving (tickMotor m .motor) ≡ true → SameDrive m (tickMotor m .motor)
+pub drive-stays : (m : Motor) → busy (tickMotor m .motor) ≡ true → SameDrive m (tickMotor m .motor)
 drive-stays m = go (way m)
   where
-    go : {t : Ticked} → Way m t → driving (t .motor) ≡ true → SameDrive m (t .motor)
+    go : {t : Ticked} → Way m t → busy (t .motor) ≡ true → SameDrive m (t .motor)
     go (rests d) h = search
     go (arrives d r) h = absurd (false≢true h)
     go (ends d r u) h = absurd (false≢true h)
@@ -154,11 +154,11 @@ drive-stays m = go (way m)
 
 -- A drive that a tick ends leaves nothing behind, and ends with flags 0 or with LSEND.
 pub drive-ends :
-    (m : Motor) → driving m ≡ true → driving (tickMotor m .motor) ≡ false
+    (m : Motor) → busy m ≡ true → busy (tickMotor m .motor) ≡ false
     → (tickMotor m .motor .drive ≡ standing) × ((tickMotor m .motor .ended ≡ 0) ⊎ (tickMotor m .motor .ended ≡ lsend))
 drive-ends m e = go (way m)
   where
-    go : {t : Ticked} → Way m t → driving (t .motor) ≡ false → (t .motor .drive ≡ standing) × ((t .motor .ended ≡ 0) ⊎ (t .motor .ended ≡ lsend))
+    go : {t : Ticked} → Way m t → busy (t .motor) ≡ false → (t .motor .drive ≡ standing) × ((t .motor .ended ≡ 0) ⊎ (t .motor .ended ≡ lsend))
     go (rests d) h = absurd (false≢true (sym d ∙ e))
     go (arrives d r) h = (refl, inl refl)
     go (ends d r u) h = (refl, inr refl)

@@ -6,13 +6,13 @@ use Rattle.record.specs.declared.Motor.{Motor}
 use Rattle.record.specs.Record.{recordOf}
 use Rattle.record.specs.Progress.{progressed}
 use Rattle.record.proofs.ProgressLaws.{ended-written, going-written}
-use Rattle.motor.specs.Sound.{driving}
+use Rattle.motor.specs.Sound.{busy}
 use Rattle.drive.specs.Drives.{lsend}
 use Rattle.pulses.specs.declared.Ticked.{Ticked}
 use Rattle.pulses.specs.Ticks.{rest, advanced, tickMotor}
 use Rattle.pulses.proofs.TickLaws.{Way, rests, arrives, ends, goes, way}
 
-pub tick-written : (m : Motor) → driving m ≡ true → progressed (recordOf m) (tickMotor m .motor) ≡ recordOf (tickMotor m .motor)
+pub tick-written : (m : Motor) → busy m ≡ true → progressed (recordOf m) (tickMotor m .motor) ≡ recordOf (tickMotor m .motor)
 tick-written m d = go (way m)
   where
     go : {t : Ticked} → Way m t → progressed (recordOf m) (t .motor) ≡ recordOf (t .motor)

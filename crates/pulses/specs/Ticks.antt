@@ -7,12 +7,12 @@ use Rattle.record.specs.declared.Motor.{Motor}
 use Rattle.pulses.specs.declared.Ticked.{Ticked}
 use Rattle.record.specs.Record.{withPlace, withDrive}
 use Rattle.motor.specs.Switches.{room}
-use Rattle.motor.specs.Sound.{driving}
+use Rattle.motor.specs.Sound.{busy}
 use Rattle.drive.specs.Drives.{endedWith, lsend}
 
 -- the speed that a tick goes at: "the speed in force"; a motor that stands stopped goes at none
 unfoldable pub tickSpeed : Motor → ℕ
-tickSpeed m = cond (driving m) (m .drive .speed) 0
+tickSpeed m = cond (busy m) (m .drive .speed) 0
 
 -- "add the speed to the fraction; the thousands are due"
 unfoldable pub due : Motor → ℕ
@@ -68,7 +68,7 @@ drivenOn m = cond (reached m) (endedWith 0 (advanced m)) (cond (usedUp m) (ended
 -- one tick of one motor: the motor after it, and the pulses given, none to a stopped motor
 unfoldable pub tickMotor : Motor → Ticked
 tickMotor m =
-    cond (driving m) (record { motor = drivenOn m; pulses = given m }) (record { motor = m; pulses = 0 })
+    cond (busy m) (record { motor = drivenOn m; pulses = given m }) (record { motor = m; pulses = 0 })
 
 -- the count that a tick puts into the pulse buffer: "CW positive, 0 for a stopped motor"
 unfoldable pub tickCount : Motor → ℕ

@@ -9,7 +9,7 @@ use digits::smaller;
 use drive::LSEND;
 use drive::end_drive;
 use drive::with_drive;
-use motor::is_driving;
+use motor::is_busy;
 use motor::room_of;
 use record::Motor;
 ghost use mathlib.Core.Path.{_≡_};
@@ -37,7 +37,7 @@ fn with_place(m: Motor, p: u32) -> Motor
 fn tick_speed(m: Motor) -> u32
     ensures { λ r. ⌜ r ≡ tickSpeed m ⌝ }
 {
-    choose(is_driving(m), m.drive.speed, 0)
+    choose(is_busy(m), m.drive.speed, 0)
 }
 
 // The fraction and the speed together, in thousandths of a pulse.
@@ -153,7 +153,7 @@ pub fn tick(m: Motor) -> Ticked
 {
     if m.drive.going == CW {
         tick_driving(CW, m)
-    } else if is_driving(m) {
+    } else if is_busy(m) {
         tick_driving(m.drive.going, m)
     } else {
         Ticked {

@@ -8,7 +8,7 @@ use Rattle.digits.specs.Places.{cw}
 use Rattle.text.specs.Text.{signedDecimal, hexDigit, hexByte}
 use Rattle.record.specs.declared.Motor.{Motor}
 use Rattle.motor.specs.Switches.{active}
-use Rattle.motor.specs.Sound.{driving}
+use Rattle.motor.specs.Sound.{busy}
 
 -- "positions and limits, a sign (+ for 0) and at least 7 digits"
 abbrev pub positionText : ℕ → List ℕ
@@ -22,11 +22,11 @@ flagIf test n = cond test n 0
 unfoldable pub statusV : Motor → ℕ
 statusV m =
     flagIf (active 0 (m .wiring)) 1 + flagIf (active 1 (m .wiring)) 2 + flagIf (active 2 (m .wiring)) 4
-    + flagIf (not (driving m) && eqb (m .setup .b) 0) 8
+    + flagIf (not (busy m) && eqb (m .setup .b) 0) 8
 
 -- "HH: the end flags, or 03 while driving (000)"
 unfoldable pub statusHH : Motor → ℕ
-statusHH m = cond (driving m) 3 (m .ended)
+statusHH m = cond (busy m) 3 (m .ended)
 
 -- "R or L": R is remote mode, L local
 unfoldable pub modeLetter : ℕ → ℕ

@@ -2,7 +2,7 @@
 
 use digits::places::CW;
 use motor::is_active;
-use motor::is_driving;
+use motor::is_busy;
 use record::Motor;
 use record::Wiring;
 use text::decimal::write_signed;
@@ -35,14 +35,14 @@ fn status_v(m: Motor) -> u8
 {
     let w = m.wiring;
     let switches = switch_flags(w);
-    switches + flag_if(!is_driving(m) & (m.setup.b == 0), 8)
+    switches + flag_if(!is_busy(m) & (m.setup.b == 0), 8)
 }
 
 // The byte HH.
 fn status_hh(m: Motor) -> u8
     ensures { λ r. ⌜ r ≡ statusHH m ⌝ }
 {
-    if is_driving(m) { 3 } else { m.ended }
+    if is_busy(m) { 3 } else { m.ended }
 }
 
 fn mode_letter(k: u8) -> u8

@@ -2,7 +2,7 @@
 
 use digits::places::count_of;
 use digits::words::put_long;
-use motor::is_driving;
+use motor::is_busy;
 use pulses::tick;
 use record::Motor;
 use table::motor_at;
@@ -14,7 +14,7 @@ ghost use lib.ListN.{length};
 ghost use Rattle.digits.specs.Bytes.{put};
 ghost use Rattle.digits.specs.Words.{wordBytes};
 ghost use Rattle.record.specs.Record.{recordOf};
-ghost use Rattle.motor.specs.Sound.{driving, soundRecord};
+ghost use Rattle.motor.specs.Sound.{busy, soundRecord};
 ghost use Rattle.pulses.specs.Ticks.{tickMotor, tickCount};
 ghost use Rattle.table.specs.Layout.{tableSize, recordAt, motorAt, withMotor, withMotors};
 ghost use Rattle.table.specs.Sound.{soundTable};
@@ -23,7 +23,7 @@ ghost use Rattle.urqolina.specs.Calls.{counts};
 // Ticks a driving motor, whose record a channel has: what changes is written into the record, and the count into the pulse buffer.
 fn drive_channel(t: &mut [u8], pulses: &mut [u8], c: u8, m: Motor)
     requires { ⌜ (length (now t) ≡ tableSize) × (length (now pulses) ≡ 64) × (c ≤ 15) ⌝ }
-    requires { ⌜ (recordAt (now t) c ≡ recordOf m) × (driving m ≡ true) ⌝ }
+    requires { ⌜ (recordAt (now t) c ≡ recordOf m) × (busy m ≡ true) ⌝ }
     ensures { λ _. ⌜ now (t .exit) ≡ withMotor (now (t .entry)) c (tickMotor m .motor) ⌝ }
     ensures { λ _. ⌜ now (pulses .exit) ≡ put (now (pulses .entry)) (4 * c) (wordBytes 4 (tickCount m)) ⌝ }
 {
@@ -44,7 +44,7 @@ fn tick_channel(t: &mut [u8], pulses: &mut [u8], c: u8)
     ensures { λ _. ⌜ now (pulses .exit) ≡ put (now (pulses .entry)) (4 * c) (wordBytes 4 (tickCount (motorAt (now (t .entry)) c))) ⌝ }
 {
     let m = motor_at(t, c);
-    if is_driving(m) {
+    if is_busy(m) {
         drive_channel(t, pulses, c, m);
     } else {
         put_long(pulses, 4 * (c as usize), 0);

@@ -1,6 +1,6 @@
 -- `drive::read_switches` meets its contract. Assumes nothing.
 use Rattle.drive.specs.Drives.{contacted}
-use Rattle.motor.specs.Sound.{driving}
+use Rattle.motor.specs.Sound.{busy}
 use Rattle.motor.specs.Switches.{blocked}
 use mathlib.Core.Bool.{true, false, _&&_}
 use mathlib.Core.Path.{_≡_}
@@ -13,8 +13,8 @@ use Rattle.drive.proofs.read_switches.Tie as tie
 with-contacts-requires : tie.Need-with-contacts-requires
 with-contacts-requires c κs = search needs
 
-is-driving-requires : tie.Need-is-driving-requires
-is-driving-requires c κs = search needs
+is-busy-requires : tie.Need-is-busy-requires
+is-busy-requires c κs = search needs
 
 is-blocked-requires : tie.Need-is-blocked-requires
 is-blocked-requires c κs = search needs
@@ -26,16 +26,16 @@ returns : tie.Need-returns
 unfolding switchRead
 returns c =
     let a = c .before .before .before .before .before .args in
-    let hit : (driving (a .m) && blocked (a .m .drive .going) (contacted (a .m) (a .contacts))) ≡ true =
-    rw (← c .before .before .before .before .with-contacts .ensures, ← c .before .before .before .is-driving .ensures, ← c .before .before .is-blocked .ensures) (c .before .if1 .taken) in
+    let hit : (busy (a .m) && blocked (a .m .drive .going) (contacted (a .m) (a .contacts))) ≡ true =
+    rw (← c .before .before .before .before .with-contacts .ensures, ← c .before .before .before .is-busy .ensures, ← c .before .before .is-blocked .ensures) (c .before .if1 .taken) in
     rw (hit, c .end-drive .ensures, c .before .before .before .before .with-contacts .ensures)
 
 returns-2 : tie.Need-returns-2
 unfolding switchRead
 returns-2 c =
     let a = c .before .before .before .before .args in
-    let free : (driving (a .m) && blocked (a .m .drive .going) (contacted (a .m) (a .contacts))) ≡ false =
-    rw (← c .before .before .before .with-contacts .ensures, ← c .before .before .is-driving .ensures, ← c .before .is-blocked .ensures) (c .if1 .left) in
+    let free : (busy (a .m) && blocked (a .m .drive .going) (contacted (a .m) (a .contacts))) ≡ false =
+    rw (← c .before .before .before .with-contacts .ensures, ← c .before .before .is-busy .ensures, ← c .before .is-blocked .ensures) (c .if1 .left) in
     rw (free, c .before .before .before .with-contacts .ensures)
 
 pub read-switches-spec : {M : Type 1} → statement M
@@ -43,7 +43,7 @@ read-switches-spec =
     tie.close
     (tie.spec
     with-contacts-requires
-    is-driving-requires
+    is-busy-requires
     is-blocked-requires
     end-drive-requires
     returns

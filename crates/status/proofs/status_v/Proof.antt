@@ -8,8 +8,8 @@ use Rattle.status.proofs.status_v.Tie as tie
 switch-flags-requires : tie.Need-switch-flags-requires
 switch-flags-requires c κs = search needs
 
-is-driving-requires : tie.Need-is-driving-requires
-is-driving-requires c κs = search needs
+is-busy-requires : tie.Need-is-busy-requires
+is-busy-requires c κs = search needs
 
 flag-if-requires : tie.Need-flag-if-requires
 flag-if-requires c κs = search needs
@@ -19,9 +19,9 @@ add-result c = search needs
 
 returns : tie.Need-returns
 unfolding statusV
-returns c = (rw (c .flag-if .ensures .0, c .before .before .is-driving .ensures, c .before .before .before .switch-flags .ensures .0), omega arith)
+returns c = (rw (c .flag-if .ensures .0, c .before .before .is-busy .ensures, c .before .before .before .switch-flags .ensures .0), omega arith)
 
 pub status-v-spec : {M : Type 1} → statement M
 status-v-spec =
     tie.close
-    (tie.spec switch-flags-requires is-driving-requires flag-if-requires add-result returns)
+    (tie.spec switch-flags-requires is-busy-requires flag-if-requires add-result returns)

@@ -8,7 +8,7 @@ use Rattle.record.specs.declared.Motor.{Motor}
 use Rattle.record.specs.Record.{recordOf, standing}
 use Rattle.record.specs.Progress.{flagsAndDrive}
 use Rattle.record.proofs.ProgressLaws.{drive-written}
-use Rattle.motor.specs.Sound.{driving}
+use Rattle.motor.specs.Sound.{busy}
 use Rattle.drive.specs.Drives.{stopped}
 use Rattle.drive.proofs.Laws.{stopped-again}
 use Rattle.table.specs.Layout.{recordStart, recordAt, motorAt, withMotor}
@@ -17,7 +17,7 @@ use Rattle.commands.proofs.changing.make_stop.Statement.{statement}
 use Rattle.commands.proofs.changing.make_stop.Tie as tie
 
 -- What a stop writes into the record of a driving motor is the record of the stopped one.
-stop-written : (flags : ℕ) (m : Motor) → driving m ≡ true
+stop-written : (flags : ℕ) (m : Motor) → busy m ≡ true
     → put (recordOf m) 31 (flagsAndDrive (stopped flags m .ended) (stopped flags m .drive)) ≡ recordOf (stopped flags m)
 unfolding stopped
 stop-written flags m d = rw d (drive-written m flags standing)
@@ -25,8 +25,8 @@ stop-written flags m d = rw d (drive-written m flags standing)
 motor-at-requires : tie.Need-motor-at-requires
 motor-at-requires c κs = search needs
 
-is-driving-requires : tie.Need-is-driving-requires
-is-driving-requires c κs = search needs
+is-busy-requires : tie.Need-is-busy-requires
+is-busy-requires c κs = search needs
 
 stop-requires : tie.Need-stop-requires
 stop-requires c κs = search needs
@@ -47,7 +47,7 @@ returns c =
     let a = k .before in
     let t = a .args .t .now in
     let x = a .args .x in
-    let drives : driving (motorAt t x) ≡ true = rw (← m .motor-at .ensures) (sym (i .before .is-driving .ensures) ∙ i .if1 .taken) in
+    let drives : busy (motorAt t x) ≡ true = rw (← m .motor-at .ensures) (sym (i .before .is-busy .ensures) ∙ i .if1 .taken) in
     let after = stopped (a .args .flags) (motorAt t x) in
     let written : put t (recordStart x) (put (recordAt t x) 31 (flagsAndDrive (after .ended) (after .drive))) ≡ withMotor t x after =
     rw (← read-back t x (a .pre .2) (λ j. k .slice-known .given j .fits)) (rw (stop-written (a .args .flags) (motorAt t x) drives)) in
@@ -63,7 +63,7 @@ returns-2 c =
     let a = k .before in
     let t = a .args .t .now in
     let x = a .args .x in
-    let stands : driving (motorAt t x) ≡ false = rw (← m .motor-at .ensures) (sym (c .before .is-driving .ensures) ∙ c .if1 .left) in
+    let stands : busy (motorAt t x) ≡ false = rw (← m .motor-at .ensures) (sym (c .before .is-busy .ensures) ∙ c .if1 .left) in
     rw (stopped-again (a .args .flags) (motorAt t x) stands)
     (sym (motor-back t x (a .pre .2) (λ j. k .slice-known .given j .fits) (a .pre .0) (a .pre .1)))
 
@@ -72,7 +72,7 @@ make-stop-spec =
     tie.close
     (tie.spec
     motor-at-requires
-    is-driving-requires
+    is-busy-requires
     stop-requires
     put-drive-requires
     same-length

@@ -1,7 +1,7 @@
 -- `commands::judging::judge_channel` meets its contract. Assumes nothing.
 use mathlib.Core.Path.{sym}
 use Rattle.commands.proofs.ChannelLaws.{others-done}
-use Rattle.commands.specs.Judging.{busy, judgeMotor}
+use Rattle.commands.specs.Judging.{meetsBusy, judgeMotor}
 use Rattle.orders.specs.Values.{valueInRange}
 use Rattle.commands.proofs.ChannelLaws.{named, named-channel}
 use borrow.Author.Needs.{needs}
@@ -40,15 +40,15 @@ judge-set-requires : tie.Need-judge-set-requires
 judge-set-requires c κs = search needs
 
 returns : tie.Need-returns
-unfolding busy judgeMotor
+unfolding meetsBusy judgeMotor
 returns c = rw (c .before .before .before .o .given .1, c .judge-go .ensures, c .before .motor-at .ensures)
 
 returns-2 : tie.Need-returns-2
-unfolding busy judgeMotor
+unfolding meetsBusy judgeMotor
 returns-2 c = rw (c .before .before .before .o2 .given .1, c .judge-speed-change .ensures, c .before .motor-at2 .ensures)
 
 returns-3 : tie.Need-returns-3
-unfolding busy judgeMotor
+unfolding meetsBusy judgeMotor
 returns-3 c = rw (c .before .before .before .o3 .given .1, c .judge-set .ensures, c .before .motor-at3 .ensures)
 
 returns-4 : tie.Need-returns-4

@@ -3,8 +3,8 @@ use borrow.Author.Needs.{needs}
 use Rattle.commands.proofs.judging.judge_go.Statement.{statement}
 use Rattle.commands.proofs.judging.judge_go.Tie as tie
 
-is-driving-requires : tie.Need-is-driving-requires
-is-driving-requires c κs = search needs
+is-busy-requires : tie.Need-is-busy-requires
+is-busy-requires c κs = search needs
 
 course-of-requires : tie.Need-course-of-requires
 course-of-requires c κs = search needs
@@ -13,12 +13,12 @@ judge-start-requires : tie.Need-judge-start-requires
 judge-start-requires c κs = search needs
 
 returns : tie.Need-returns
-returns c = rw (← c .before .is-driving .ensures, c .if1 .taken)
+returns c = rw (← c .before .is-busy .ensures, c .if1 .taken)
 
 returns-2 : tie.Need-returns-2
-returns-2 c = rw (c .judge-start .ensures, c .before .course-of .ensures, ← c .before .before .before .is-driving .ensures, c .before .before .if1 .left)
+returns-2 c = rw (c .judge-start .ensures, c .before .course-of .ensures, ← c .before .before .before .is-busy .ensures, c .before .before .if1 .left)
 
 pub judge-go-spec : {M : Type 1} → statement M
 judge-go-spec =
     tie.close
-    (tie.spec is-driving-requires course-of-requires judge-start-requires returns returns-2)
+    (tie.spec is-busy-requires course-of-requires judge-start-requires returns returns-2)
