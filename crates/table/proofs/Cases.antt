@@ -8,7 +8,7 @@ use Rattle.digits.specs.Bytes.{part, put}
 use Rattle.digits.specs.Places.{origin, cw}
 use Rattle.record.specs.declared.Motor.{Motor}
 use Rattle.record.specs.Record.{recordOf, freshMotor, withDrive}
-use Rattle.table.specs.Layout.{mode, allReply, errors, withMode, withAllReply, withErrors, recordAt, motorAt, withMotor, withMotors, freshTable}
+use Rattle.table.specs.Layout.{headOf, withHead, withMode, withReply, withErrors, recordAt, motorAt, withMotor, withMotors, freshTable}
 use Rattle.table.specs.Sound.{soundTable}
 use Rattle.table.specs.Computing.{computing-table}
 
@@ -35,12 +35,12 @@ placed :
 unfolding computing-table away scanning
 placed = (refl, refl, refl, refl, refl, refl, refl, refl, refl, refl, refl)
 
--- the head's three fields stand at bytes 0, 1 and 2
+-- the head's three fields stand at bytes 0, 1 and 2, and are written there
 head :
-    (mode (1 ∷ 2 ∷ 3 ∷ []) ≡ 1) × (allReply (1 ∷ 2 ∷ 3 ∷ []) ≡ 2) × (errors (1 ∷ 2 ∷ 3 ∷ []) ≡ 3)
-    × (withErrors (withAllReply (withMode (0 ∷ 0 ∷ 0 ∷ 0 ∷ []) 1) 1) 15 ≡ 1 ∷ 1 ∷ 15 ∷ 0 ∷ [])
+    (headOf (1 ∷ 2 ∷ 3 ∷ []) ≡ record { mode = 1; reply = 2; errors = 3 })
+    × (withHead (0 ∷ 0 ∷ 0 ∷ 9 ∷ []) (withErrors (withReply (withMode (headOf (0 ∷ 0 ∷ 0 ∷ [])) 1) 1) 15) ≡ 1 ∷ 1 ∷ 15 ∷ 9 ∷ [])
 unfolding computing-table
-head = (refl, refl, refl, refl)
+head = (refl, refl)
 
 -- a table of a wrong length, one of all FFh, a head byte out of range, and a byte of any record that must be zero
 unsound :

@@ -1,5 +1,6 @@
 pub mod PieceLaws
 pub mod LoopLaws
 pub mod TableLaws
+pub mod HeadLaws
 pub mod KeptLaws
 pub mod Cases

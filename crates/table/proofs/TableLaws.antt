@@ -3,13 +3,13 @@
 use mathlib.Core.Path.{_≡_, _∙_}
 use mathlib.Core.List.{List, [], _∷_, _++_, append-assoc, append-nil, flatMap}
 use mathlib.Core.Bool.{true, _&&_}
-use Prim.Native.Nat.{ℕ, suc, _+_, _*_, _≤_}
+use Prim.Native.Nat.{ℕ, suc, _+_, _*_, _≤_, _<_}
 use native.Mathlib.Numerals.{add-one}
 use native.Mathlib.Omega.{arith}
 use lib.ListN.{length, take, drop, length-append, length-take, length-drop, take-append-drop, drop-of-length-le}
 use lib.Dec.{eqb}
 use lib.Seq.{drop-drop, drop-at}
-use borrow.Author.Tests.{eqb-true}
+use borrow.Author.Tests.{eqb-true, eq-eqb}
 use Rattle.digits.specs.Bytes.{part, pieces, every}
 use Rattle.digits.proofs.PutLaws.{put-length}
 use Rattle.record.specs.declared.Motor.{Motor}
@@ -18,20 +18,11 @@ use Rattle.record.proofs.RoundTrip.{record-length}
 use Rattle.motor.specs.Sound.{soundMotor, soundRecord}
 use Rattle.motor.proofs.SoundLaws.{and-l, and-r}
 use Rattle.motor.proofs.RecordLaws.{record-motor-sound}
-use Rattle.table.specs.Layout.{tableSize, withMode, withAllReply, withErrors, recordStart, recordAt, records, motorAt, withMotor, withMotors, freshTable}
+use Rattle.table.specs.Layout.{tableSize, recordStart, recordAt, records, motorAt, withMotor, withMotors, freshTable}
 use Rattle.table.specs.Sound.{soundHead, soundTable}
-use Rattle.table.proofs.PieceLaws.{every-each, flat-more, flat-length, gather-length, put-next}
+use Rattle.table.proofs.PieceLaws.{every-each, each-every, flat-more, flat-length, gather-length, put-next}
 
 -- A write into the table keeps its length.
-pub mode-length : (t : List ℕ) (k : ℕ) → length t ≡ tableSize → length (withMode t k) ≡ tableSize
-mode-length t k e = put-length t 0 (k ∷ []) (omega arith) ∙ e
-
-pub reply-length : (t : List ℕ) (k : ℕ) → length t ≡ tableSize → length (withAllReply t k) ≡ tableSize
-reply-length t k e = put-length t 1 (k ∷ []) (omega arith) ∙ e
-
-pub errors-length : (t : List ℕ) (k : ℕ) → length t ≡ tableSize → length (withErrors t k) ≡ tableSize
-errors-length t k e = put-length t 2 (k ∷ []) (omega arith) ∙ e
-
 pub motor-length : (t : List ℕ) (c : ℕ) (m : Motor) → length t ≡ tableSize → c ≤ 15 → length (withMotor t c m) ≡ tableSize
 unfolding withMotor
 motor-length t c m e h = let n = record-length m in put-length t (recordStart c) (recordOf m) (omega arith) ∙ e
@@ -123,3 +114,15 @@ sound-record-at t c s h =
 pub sound-motor-at : (t : List ℕ) (c : ℕ) → soundTable t ≡ true → c ≤ 15 → soundMotor (motorAt t c) ≡ true
 unfolding motorAt
 sound-motor-at t c s h = record-motor-sound (recordAt t c) (sound-record-at t c s h)
+
+pub sound-head-of : (t : List ℕ) → soundTable t ≡ true → soundHead t ≡ true
+unfolding soundTable
+sound-head-of t s = and-r (eqb (length t) tableSize) _ (and-l _ (every soundRecord (records t)) s)
+
+-- A table is sound where its length is right, its head is sound and each of its records is.
+pub sound-from : (t : List ℕ) → length t ≡ tableSize → soundHead t ≡ true
+    → ((c : ℕ) → c < 16 → soundRecord (recordAt t c) ≡ true) → soundTable t ≡ true
+unfolding soundTable part
+sound-from t e h r =
+    rw (eq-eqb (length t) tableSize e, h)
+    (each-every soundRecord 64 16 (drop 64 t) (λ c l. rw (drop-drop (64 * c) 64 t) (r c l)))

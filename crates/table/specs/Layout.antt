@@ -6,34 +6,39 @@ use Rattle.digits.specs.Bytes.{part, put, pieces, gather}
 use Rattle.digits.specs.Words.{word}
 use Rattle.record.specs.declared.Motor.{Motor}
 use Rattle.record.specs.Record.{motorOf, recordOf, freshMotor}
+use Rattle.table.specs.declared.head.Head.{Head}
 
 -- "1,088 bytes"
 abbrev pub tableSize : ℕ
 tableSize = 1088
 
--- "byte 0 mode (0 local, 1 remote)"
-abbrev pub mode : List ℕ → ℕ
-mode t = word (part t 0 1)
+-- "byte 0 mode (0 local, 1 remote), byte 1 all-reply (0 off, 1 on), byte 2 error flags 0..15": the head that a table holds
+unfoldable pub headOf : List ℕ → Head
+headOf t = record { mode = word (part t 0 1); reply = word (part t 1 1); errors = word (part t 2 1) }
 
--- "byte 1 all-reply (0 off, 1 on)"
-abbrev pub allReply : List ℕ → ℕ
-allReply t = word (part t 1 1)
+-- its fields as they are written
+abbrev pub headBytes : Head → List ℕ
+headBytes h = h .mode ∷ h .reply ∷ h .errors ∷ []
 
--- "byte 2 error flags 0..15"
-abbrev pub errors : List ℕ → ℕ
-errors t = word (part t 2 1)
+-- how many bytes they take; "the rest zero"
+abbrev pub headUsed : ℕ
+headUsed = 3
 
--- the table with another mode, and every other byte as it was
-abbrev pub withMode : List ℕ → ℕ → List ℕ
-withMode t n = put t 0 (n ∷ [])
+-- the table with another head, and every other byte as it was
+unfoldable pub withHead : List ℕ → Head → List ℕ
+withHead t h = put t 0 (headBytes h)
 
--- the same for all-reply
-abbrev pub withAllReply : List ℕ → ℕ → List ℕ
-withAllReply t n = put t 1 (n ∷ [])
+-- the head with another mode
+abbrev pub withMode : Head → ℕ → Head
+withMode h n = record { mode = n; reply = h .reply; errors = h .errors }
 
--- the same for the error flags
-abbrev pub withErrors : List ℕ → ℕ → List ℕ
-withErrors t n = put t 2 (n ∷ [])
+-- the head with another all-reply
+abbrev pub withReply : Head → ℕ → Head
+withReply h n = record { mode = h .mode; reply = n; errors = h .errors }
+
+-- the head with other error flags
+abbrev pub withErrors : Head → ℕ → Head
+withErrors h n = record { mode = h .mode; reply = h .reply; errors = n }
 
 -- "the record of channel c starts at 64 + 64c"
 abbrev pub recordStart : ℕ → ℕ

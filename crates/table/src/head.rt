@@ -1,66 +1,81 @@
-// The head of the table, its first 64 bytes: the mode, all-reply, the error flags, and zeros.
+// The head of the table, its first 64 bytes, by value: the mode, all-reply and the error flags; the rest is zero. Whoever
+// changes one field reads the head, sets the field, and writes the head back.
 
 use digits::words::byte_at;
 use digits::words::long_at;
-use digits::words::put_byte;
 use digits::words::put_long;
 use digits::words::wide_at;
 ghost use mathlib.Core.Path.{_≡_};
 ghost use lib.ListN.{length, replicate};
 ghost use Rattle.digits.specs.Bytes.{part, put, allZero};
-ghost use Rattle.table.specs.Layout.{tableSize, mode, allReply, errors, withMode, withAllReply, withErrors};
-ghost use Rattle.table.specs.Sound.{soundHead};
+ghost use Rattle.table.specs.Layout.{tableSize, headUsed, headOf, withHead, withMode, withReply, withErrors};
+ghost use Rattle.table.specs.Sound.{headInRange, soundHead};
 
-// The mode: 0 local, 1 remote.
-pub fn mode_of(t: &[u8]) -> u8
-    requires { ⌜ length (now t) ≡ tableSize ⌝ }
-    ensures { λ r. ⌜ r ≡ mode (now (t .entry)) ⌝ }
-{
-    byte_at(t, 0)
+// The mode: 0 local, 1 remote. All-reply: 0 off, 1 on. The error flags: 0 to 15.
+pub struct Head {
+    pub mode: u8,
+    pub reply: u8,
+    pub errors: u8,
 }
 
-// All-reply: 0 off, 1 on.
-pub fn all_reply_of(t: &[u8]) -> u8
+// The head that a table holds.
+pub fn read_head(t: &[u8]) -> Head
     requires { ⌜ length (now t) ≡ tableSize ⌝ }
-    ensures { λ r. ⌜ r ≡ allReply (now (t .entry)) ⌝ }
+    ensures { λ r. ⌜ r ≡ headOf (now (t .entry)) ⌝ }
 {
-    byte_at(t, 1)
+    Head {
+        mode: byte_at(t, 0),
+        reply: byte_at(t, 1),
+        errors: byte_at(t, 2),
+    }
 }
 
-// The error flags.
-pub fn errors_of(t: &[u8]) -> u8
+// Writes a head; every byte that it has no field for stays as it is.
+pub fn write_head(t: &mut [u8], h: Head)
     requires { ⌜ length (now t) ≡ tableSize ⌝ }
-    ensures { λ r. ⌜ r ≡ errors (now (t .entry)) ⌝ }
+    ensures { λ _. ⌜ now (t .exit) ≡ withHead (now (t .entry)) h ⌝ }
 {
-    byte_at(t, 2)
+    t[0] = h.mode;
+    t[1] = h.reply;
+    t[2] = h.errors;
 }
 
-// Each of the three written; every other byte stays as it is.
-pub fn set_mode(t: &mut [u8], k: u8)
-    requires { ⌜ length (now t) ≡ tableSize ⌝ }
-    ensures { λ _. ⌜ now (t .exit) ≡ withMode (now (t .entry)) k ⌝ }
+// The head with one field set, and the others as they were.
+pub fn with_mode(h: Head, k: u8) -> Head
+    ensures { λ r. ⌜ r ≡ withMode h k ⌝ }
 {
-    put_byte(t, 0, k)
+    let mut n = h;
+    n.mode = k;
+    n
 }
 
-pub fn set_all_reply(t: &mut [u8], k: u8)
-    requires { ⌜ length (now t) ≡ tableSize ⌝ }
-    ensures { λ _. ⌜ now (t .exit) ≡ withAllReply (now (t .entry)) k ⌝ }
+pub fn with_reply(h: Head, k: u8) -> Head
+    ensures { λ r. ⌜ r ≡ withReply h k ⌝ }
 {
-    put_byte(t, 1, k)
+    let mut n = h;
+    n.reply = k;
+    n
 }
 
-pub fn set_errors(t: &mut [u8], k: u8)
-    requires { ⌜ length (now t) ≡ tableSize ⌝ }
-    ensures { λ _. ⌜ now (t .exit) ≡ withErrors (now (t .entry)) k ⌝ }
+pub fn with_errors(h: Head, k: u8) -> Head
+    ensures { λ r. ⌜ r ≡ withErrors h k ⌝ }
 {
-    put_byte(t, 2, k)
+    let mut n = h;
+    n.errors = k;
+    n
+}
+
+// Whether the fields of a head are in their ranges.
+fn head_in_range(h: Head) -> bool
+    ensures { λ r. ⌜ r ≡ headInRange h ⌝ }
+{
+    (h.mode <= 1) & (h.reply <= 1) & (h.errors <= 15)
 }
 
 // Whether the bytes of the head that no field has, 3 to 63, are zero: byte 3, a word of four bytes, and then words of eight.
 fn head_zero(t: &[u8]) -> bool
     requires { ⌜ length (now t) ≡ tableSize ⌝ }
-    ensures { λ r. ⌜ r ≡ allZero (part (now (t .entry)) 3 61) ⌝ }
+    ensures { λ r. ⌜ r ≡ allZero (part (now (t .entry)) headUsed 61) ⌝ }
 {
     let mut k: usize = 1;
     while k < 8 {
@@ -78,7 +93,7 @@ pub fn sound_head(t: &[u8]) -> bool
     requires { ⌜ length (now t) ≡ tableSize ⌝ }
     ensures { λ r. ⌜ r ≡ soundHead (now (t .entry)) ⌝ }
 {
-    if (mode_of(t) <= 1) & (all_reply_of(t) <= 1) & (errors_of(t) <= 15) {
+    if head_in_range(read_head(t)) {
         head_zero(t)
     } else {
         false

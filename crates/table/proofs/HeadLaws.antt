@@ -1,0 +1,73 @@
+-- The head by value: what is there after it is written, what a write of it leaves, and what leaves it. Only `same-head` and
+-- `head-back` know its fields. Assumes nothing.
+use mathlib.Core.Path.{_≡_, _∙_}
+use mathlib.Core.List.{List, [], _∷_}
+use mathlib.Core.Bool.{true, _&&_}
+use Prim.Native.Nat.{ℕ, _+_, _≤_}
+use native.Mathlib.Omega.{arith}
+use lib.ListN.{length}
+use borrow.Author.Tests.{leb-true}
+use Rattle.digits.specs.Bytes.{part, put, allZero}
+use Rattle.digits.specs.Words.{word}
+use Rattle.digits.proofs.PutLaws.{put-length}
+use Rattle.motor.proofs.SoundLaws.{and-l, and-r}
+use Rattle.table.specs.declared.head.Head.{Head}
+use Rattle.table.specs.Layout.{tableSize, headOf, headBytes, headUsed, withHead, recordStart, recordAt, motorAt}
+use Rattle.table.specs.Sound.{headInRange, soundHead, soundTable}
+use Rattle.table.proofs.PieceLaws.{part-after}
+use Rattle.table.proofs.TableLaws.{sound-length, sound-record-at, sound-head-of, sound-from}
+
+-- A byte is the number of itself alone.
+byte-word : (n : ℕ) → word (n ∷ []) ≡ n
+unfolding word
+byte-word n = omega arith
+
+-- Where the 64 bytes are the same, the head is, and it is sound alike.
+module _ (t u : List ℕ) (same : (i n : ℕ) → i + n ≤ 64 → part u i n ≡ part t i n) where
+  pub same-head : headOf u ≡ headOf t
+  unfolding headOf
+  same-head = rw (same 0 1 (omega arith), same 1 1 (omega arith), same 2 1 (omega arith))
+
+  pub same-sound : soundHead u ≡ soundHead t
+  unfolding soundHead
+  same-sound = rw (same-head, same headUsed 61 (omega arith))
+
+-- A head that is written is read back, and leaves every byte after its fields, the records among them.
+module _ (t : List ℕ) (h : Head) (whole : length t ≡ tableSize) where
+  pub head-length : length (withHead t h) ≡ tableSize
+  unfolding withHead
+  head-length = put-length t 0 (headBytes h) (omega arith) ∙ whole
+
+  pub head-back : headOf (withHead t h) ≡ h
+  unfolding headOf withHead part put
+  head-back = rw (byte-word (h .mode), byte-word (h .reply), byte-word (h .errors))
+
+  pub head-after : (i n : ℕ) → headUsed ≤ i → part (withHead t h) i n ≡ part t i n
+  unfolding withHead
+  head-after i n l = part-after t (headBytes h) 0 i n (omega arith) (omega arith)
+
+  pub head-record : (c : ℕ) → recordAt (withHead t h) c ≡ recordAt t c
+  head-record c = head-after (recordStart c) 64 (omega arith)
+
+  pub head-motor : (c : ℕ) → motorAt (withHead t h) c ≡ motorAt t c
+  unfolding motorAt
+  head-motor c = rw (head-record c)
+
+-- A head in range that is written into a sound table leaves it sound.
+pub head-sound : (t : List ℕ) (h : Head) → soundTable t ≡ true → headInRange h ≡ true → soundTable (withHead t h) ≡ true
+unfolding soundHead
+head-sound t h s r =
+    let e = sound-length t s in
+    let zeros = and-r (headInRange (headOf t)) (allZero (part t headUsed 61)) (sound-head-of t s) in
+    sound-from (withHead t h) (head-length t h e)
+    (rw (head-back t h e, r, head-after t h e headUsed 61 (omega arith)) zeros)
+    (λ c l. rw (head-record t h e c) (sound-record-at t c s (omega arith)))
+
+-- The head of a sound table is in range, and its error flags are four bits.
+pub sound-range : (t : List ℕ) → soundTable t ≡ true → headInRange (headOf t) ≡ true
+unfolding soundHead
+sound-range t s = and-l (headInRange (headOf t)) (allZero (part t headUsed 61)) (sound-head-of t s)
+
+pub range-errors : (h : Head) → headInRange h ≡ true → h .errors ≤ 15
+unfolding headInRange
+range-errors h r = search (and-l, and-r, leb-true)

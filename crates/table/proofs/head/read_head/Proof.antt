@@ -1,0 +1,21 @@
+-- `table::head::read_head` meets its contract. Assumes nothing.
+use borrow.Author.Needs.{needs}
+use Rattle.table.specs.Layout.{headOf}
+use Rattle.table.proofs.head.read_head.Statement.{statement}
+use Rattle.table.proofs.head.read_head.Tie as tie
+
+byte-at-requires : tie.Need-byte-at-requires
+byte-at-requires c κs = search needs
+
+byte-at-requires-2 : tie.Need-byte-at-requires-2
+byte-at-requires-2 c κs = search needs
+
+byte-at-requires-3 : tie.Need-byte-at-requires-3
+byte-at-requires-3 c κs = search needs
+
+returns : tie.Need-returns
+unfolding headOf
+returns c = rw (c .byte-at3 .ensures, c .before .byte-at2 .ensures, c .before .before .byte-at .ensures)
+
+pub read-head-spec : {M : Type 1} → statement M
+read-head-spec = tie.close (tie.spec byte-at-requires byte-at-requires-2 byte-at-requires-3 returns)
