@@ -4,7 +4,7 @@ use mathlib.Core.List.{List}
 use Rattle.drive.specs.declared.Verdict.{Verdict}
 use Rattle.drive.specs.declared.Verdict.the-variants.{Done}
 use Rattle.line.specs.declared.Order.{Order}
-use Rattle.line.specs.declared.Order.the-variants.{Go, Stop, StopAll, ChangeSpeed, Set, Ask, Mode, AllReply, AskHead, ClearErrors, ClearError}
+use Rattle.line.specs.declared.Order.the-variants.{Go, Stop, StopAll, ChangeSpeed, Set, Ask, AskHead, ForHead}
 use Rattle.replies.specs.Replies.{echo, questionText, headText}
 use Rattle.table.specs.Layout.{mode, allReply, errors, motorAt}
 

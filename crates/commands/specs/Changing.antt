@@ -6,7 +6,7 @@ use Rattle.drive.specs.declared.Verdict.{Verdict}
 use Rattle.drive.specs.Numbers.{numberOf}
 use Rattle.drive.specs.Drives.{started, stopped, speedChanged}
 use Rattle.line.specs.declared.Order.{Order}
-use Rattle.line.specs.declared.Order.the-variants.{Go, Stop, StopAll, ChangeSpeed, Set, Ask, Mode, AllReply, AskHead, ClearErrors, ClearError}
+use Rattle.line.specs.declared.Order.the-variants.{Go, Stop, StopAll, ChangeSpeed, Set, Ask, AskHead, ForHead}
 use Rattle.orders.specs.Settings.{courseOf, withSetting}
 use Rattle.table.specs.Layout.{errors, withMode, withAllReply, withErrors, motorAt, withMotor, withMotors}
 

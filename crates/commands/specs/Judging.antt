@@ -8,7 +8,7 @@ use Rattle.drive.specs.declared.Verdict.the-variants.{Done, Busy, OutOfRange, L
 use Rattle.motor.specs.Sound.{busy}
 use Rattle.drive.specs.Drives.{judgeStart, judgeSpeedChange}
 use Rattle.line.specs.declared.Order.{Order}
-use Rattle.line.specs.declared.Order.the-variants.{Go, Stop, StopAll, ChangeSpeed, Set, Ask, Mode, AllReply, AskHead, ClearErrors, ClearError}
+use Rattle.line.specs.declared.Order.the-variants.{Go, Stop, StopAll, ChangeSpeed, Set, Ask, AskHead, ForHead}
 use Rattle.orders.specs.Values.{needsRemote, valueInRange}
 use Rattle.orders.specs.Settings.{courseOf}
 use Rattle.table.specs.Layout.{mode, motorAt}

@@ -4,6 +4,7 @@ use crate::rows::*;
 use digits::places::CCW;
 use digits::places::CW;
 use line::Fields;
+use line::HeadOrder;
 use line::HeadQuestion;
 use line::Order;
 use line::Parsed;
@@ -111,15 +112,15 @@ fn head_order(row: u8, f: Fields) -> Parsed
 {
     let written = f.written;
     match row {
-        LOC_ROW => Parsed::Is(Order::Mode(0)),
-        REM_ROW => Parsed::Is(Order::Mode(1)),
-        ALL_REP_EN_ROW => Parsed::Is(Order::AllReply(1)),
-        ALL_REP_DS_ROW => Parsed::Is(Order::AllReply(0)),
+        LOC_ROW => Parsed::Is(Order::ForHead(HeadOrder::Mode(0))),
+        REM_ROW => Parsed::Is(Order::ForHead(HeadOrder::Mode(1))),
+        ALL_REP_EN_ROW => Parsed::Is(Order::ForHead(HeadOrder::AllReply(1))),
+        ALL_REP_DS_ROW => Parsed::Is(Order::ForHead(HeadOrder::AllReply(0))),
         ASK_ALL_REP_ROW => Parsed::Is(Order::AskHead(HeadQuestion::AskAllReply)),
         ASK_ERRF_ROW => Parsed::Is(Order::AskHead(HeadQuestion::AskFlags)),
         ASK_ERR_ROW => Parsed::Is(Order::AskHead(HeadQuestion::AskError)),
-        ERRC_ROW => Parsed::Is(Order::ClearErrors),
-        ERRCE_ROW => Parsed::Is(Order::ClearError(written.digits)),
+        ERRC_ROW => Parsed::Is(Order::ForHead(HeadOrder::ClearErrors)),
+        ERRCE_ROW => Parsed::Is(Order::ForHead(HeadOrder::ClearError(written.digits))),
         _ => Parsed::Nothing,
     }
 }

@@ -9,7 +9,7 @@ use Rattle.digits.specs.Bytes.{put}
 use Rattle.drive.specs.declared.Verdict.the-variants.{Done}
 use Rattle.drive.specs.Numbers.{numberOf}
 use Rattle.line.specs.declared.Order.{Order}
-use Rattle.line.specs.declared.Order.the-variants.{Go, Stop, StopAll, ChangeSpeed, Set, Ask, Mode, AllReply, AskHead, ClearErrors, ClearError}
+use Rattle.line.specs.declared.Order.the-variants.{Go, Stop, StopAll, ChangeSpeed, Set, Ask, AskHead, ForHead}
 use Rattle.line.specs.declared.Parsed.{Parsed}
 use Rattle.line.specs.declared.Parsed.the-variants.{Is}
 use Rattle.line.specs.Forms.{orderOf}

@@ -17,7 +17,7 @@ use Rattle.pulses.specs.Ticks.{tickMotor}
 use Rattle.pulses.proofs.Laws.{stopped-given-none}
 use Rattle.drive.proofs.Laws.{stopped-again}
 use Rattle.line.specs.declared.Order.{Order}
-use Rattle.line.specs.declared.Order.the-variants.{Go, Stop, StopAll, ChangeSpeed, Set, Ask, Mode, AllReply, AskHead, ClearErrors, ClearError}
+use Rattle.line.specs.declared.Order.the-variants.{Go, Stop, StopAll, ChangeSpeed, Set, Ask, AskHead, ForHead}
 use Rattle.line.specs.declared.Parsed.{Parsed}
 use Rattle.line.specs.declared.Parsed.the-variants.{Is, Nothing}
 use Rattle.line.specs.Forms.{orderOf}

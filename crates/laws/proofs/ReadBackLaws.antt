@@ -22,7 +22,7 @@ use Rattle.line.specs.declared.Setting.{Setting}
 use Rattle.line.specs.declared.Question.the-variants.{AskStatus}
 use Rattle.line.specs.declared.HeadQuestion.the-variants.{AskAllReply}
 use Rattle.line.specs.declared.Order.{Order}
-use Rattle.line.specs.declared.Order.the-variants.{Go, Stop, StopAll, ChangeSpeed, Set, Ask, Mode, AllReply, AskHead, ClearErrors, ClearError}
+use Rattle.line.specs.declared.Order.the-variants.{Go, Stop, StopAll, ChangeSpeed, Set, Ask, AskHead, ForHead}
 use Rattle.line.specs.declared.Parsed.{Parsed}
 use Rattle.line.specs.declared.Parsed.the-variants.{Is, Nothing}
 use Rattle.line.specs.Forms.{orderOf}

@@ -22,7 +22,7 @@ use Rattle.pulses.proofs.TickSound.{tick-sound, pulses-bound}
 use Rattle.line.specs.declared.Setting.{Setting}
 use Rattle.line.specs.declared.Setting.the-variants.{Preset, SetCwLimit, SetCcwLimit, Select, SetSpeed, SetSwitches, SetMotor}
 use Rattle.line.specs.declared.Order.{Order}
-use Rattle.line.specs.declared.Order.the-variants.{Go, Stop, StopAll, ChangeSpeed, Set, Ask, Mode, AllReply, AskHead, ClearErrors, ClearError}
+use Rattle.line.specs.declared.Order.the-variants.{Go, Stop, StopAll, ChangeSpeed, Set, Ask, AskHead, ForHead}
 use Rattle.line.specs.declared.Parsed.{Parsed}
 use Rattle.line.specs.declared.Parsed.the-variants.{Is, Nothing}
 use Rattle.orders.specs.Settings.{courseOf, withSetting}

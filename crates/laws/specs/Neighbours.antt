@@ -6,7 +6,7 @@ use Prim.Native.Nat.{ℕ, _%_, _≤_}
 use Rattle.digits.specs.Bytes.{AllBytes, part}
 use Rattle.motor.specs.Sound.{busy}
 use Rattle.line.specs.declared.Order.{Order}
-use Rattle.line.specs.declared.Order.the-variants.{Go, Stop, StopAll, ChangeSpeed, Set, Ask, Mode, AllReply, AskHead, ClearErrors, ClearError}
+use Rattle.line.specs.declared.Order.the-variants.{Go, Stop, StopAll, ChangeSpeed, Set, Ask, AskHead, ForHead}
 use Rattle.line.specs.declared.Parsed.the-variants.{Is}
 use Rattle.line.specs.Forms.{orderOf}
 use Rattle.table.specs.Layout.{recordAt, motorAt}

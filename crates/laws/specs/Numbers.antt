@@ -13,7 +13,7 @@ use Rattle.pulses.specs.Ticks.{tickMotor}
 use Rattle.line.specs.declared.Question.{Question}
 use Rattle.line.specs.declared.HeadQuestion.{HeadQuestion}
 use Rattle.line.specs.declared.Order.{Order}
-use Rattle.line.specs.declared.Order.the-variants.{Go, Stop, StopAll, ChangeSpeed, Set, Ask, Mode, AllReply, AskHead, ClearErrors, ClearError}
+use Rattle.line.specs.declared.Order.the-variants.{Go, Stop, StopAll, ChangeSpeed, Set, Ask, AskHead, ForHead}
 use Rattle.line.specs.declared.Parsed.the-variants.{Is, Nothing}
 use Rattle.line.specs.Forms.{orderOf}
 use Rattle.replies.specs.Replies.{echo, questionText, headText}

@@ -12,7 +12,8 @@ use Rattle.line.specs.declared.Written.{Written}
 use Rattle.line.specs.declared.Start.the-variants.{Abs, Rel, Scan, Jog}
 use Rattle.line.specs.declared.Setting.the-variants.{Preset, SetCwLimit, SetCcwLimit, Select, SetSpeed, SetSwitches, SetMotor}
 use Rattle.line.specs.declared.Question.the-variants.{AskPosition, AskCwLimit, AskCcwLimit, AskSelected, AskSpeed, AskSwitches, AskMotor, AskStatus}
-use Rattle.line.specs.declared.Order.the-variants.{Go, Stop, StopAll, ChangeSpeed, Set, Ask, Mode, AllReply, AskHead, ClearErrors, ClearError}
+use Rattle.line.specs.declared.Order.the-variants.{Go, Stop, StopAll, ChangeSpeed, Set, Ask, AskHead, ForHead}
+use Rattle.line.specs.declared.HeadOrder.the-variants.{Mode, AllReply, ClearErrors, ClearError}
 use Rattle.line.specs.declared.HeadQuestion.the-variants.{AskAllReply, AskFlags, AskError}
 use Rattle.line.specs.declared.Parsed.{Parsed}
 use Rattle.line.specs.declared.Parsed.the-variants.{Is, Nothing}
@@ -42,7 +43,7 @@ every-form :
     × (map line ("PS?0" ∷ "FL?0" ∷ "BL?0" ∷ "SPD?0" ∷ "SPDH?0" ∷ "SPDM?0" ∷ "SPDL?0" ∷ "SETLS?0" ∷ "SETMT?0" ∷ "STS0?" ∷ [])
     ≡ map (λ q. Is (Ask 0 q)) (AskPosition ∷ AskCwLimit ∷ AskCcwLimit ∷ AskSelected ∷ AskSpeed 2 ∷ AskSpeed 1 ∷ AskSpeed 0 ∷ AskSwitches ∷ AskMotor ∷ AskStatus ∷ []))
     × (map line ("LOC" ∷ "REM" ∷ "ALL_REP EN" ∷ "ALL_REP DS" ∷ "ALL_REP?" ∷ "ERRF?" ∷ "ERR?" ∷ "ERRC" ∷ "ERRC9" ∷ [])
-    ≡ Is (Mode 0) ∷ Is (Mode 1) ∷ Is (AllReply 1) ∷ Is (AllReply 0) ∷ Is (AskHead AskAllReply) ∷ Is (AskHead AskFlags) ∷ Is (AskHead AskError) ∷ Is ClearErrors ∷ Is (ClearError 9) ∷ [])
+    ≡ Is (ForHead (Mode 0)) ∷ Is (ForHead (Mode 1)) ∷ Is (ForHead (AllReply 1)) ∷ Is (ForHead (AllReply 0)) ∷ Is (AskHead AskAllReply) ∷ Is (AskHead AskFlags) ∷ Is (AskHead AskError) ∷ Is (ForHead ClearErrors) ∷ Is (ForHead (ClearError 9)) ∷ [])
 unfolding computing-line line plus minus
 every-form = (refl, refl, refl, refl, refl, refl)
 

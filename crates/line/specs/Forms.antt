@@ -15,7 +15,9 @@ use Rattle.line.specs.declared.Setting.the-variants.{Preset, SetCwLimit,
 use Rattle.line.specs.declared.Question.{Question}
 use Rattle.line.specs.declared.Question.the-variants.{AskPosition, AskCwLimit, AskCcwLimit, AskSelected, AskSpeed, AskSwitches, AskMotor, AskStatus}
 use Rattle.line.specs.declared.Order.{Order}
-use Rattle.line.specs.declared.Order.the-variants.{Go, Stop, StopAll, ChangeSpeed, Set, Ask, Mode, AllReply, AskHead, ClearErrors, ClearError}
+use Rattle.line.specs.declared.Order.the-variants.{Go, Stop, StopAll, ChangeSpeed, Set, Ask, AskHead, ForHead}
+use Rattle.line.specs.declared.HeadOrder.{HeadOrder}
+use Rattle.line.specs.declared.HeadOrder.the-variants.{Mode, AllReply, ClearErrors, ClearError}
 use Rattle.line.specs.declared.HeadQuestion.the-variants.{AskAllReply, AskFlags, AskError}
 use Rattle.line.specs.declared.Parsed.{Parsed}
 use Rattle.line.specs.declared.Parsed.the-variants.{Is, Nothing}
@@ -121,15 +123,15 @@ questionRows =
 -- `LOC`, `REM`, `ALL_REP EN`, `ALL_REP DS`, `ALL_REP?`, `ERRF?`, `ERR?`, `ERRC`, `ERRCe` (e one digit).
 abbrev pub headRows : List Row
 headRows =
-    row "LOC" alone (λ f. Mode 0)
-    ∷ row "REM" alone (λ f. Mode 1)
-    ∷ row "ALL_REP " EN (λ f. AllReply 1)
-    ∷ row "ALL_REP " DS (λ f. AllReply 0)
+    row "LOC" alone (λ f. ForHead (Mode 0))
+    ∷ row "REM" alone (λ f. ForHead (Mode 1))
+    ∷ row "ALL_REP " EN (λ f. ForHead (AllReply 1))
+    ∷ row "ALL_REP " DS (λ f. ForHead (AllReply 0))
     ∷ row "ALL_REP?" alone (λ f. AskHead AskAllReply)
     ∷ row "ERRF?" alone (λ f. AskHead AskFlags)
     ∷ row "ERR?" alone (λ f. AskHead AskError)
-    ∷ row "ERRC" alone (λ f. ClearErrors)
-    ∷ row "ERRC" e (λ f. ClearError (f .written .digits))
+    ∷ row "ERRC" alone (λ f. ForHead ClearErrors)
+    ∷ row "ERRC" e (λ f. ForHead (ClearError (f .written .digits)))
     ∷ []
 
 -- a line is read whole: nothing follows the fields

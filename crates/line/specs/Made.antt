@@ -10,7 +10,9 @@ use Rattle.line.specs.declared.Start.the-variants.{Abs, Rel, Scan, Jog}
 use Rattle.line.specs.declared.Setting.{Setting}
 use Rattle.line.specs.declared.Setting.the-variants.{Preset, SetCwLimit, SetCcwLimit, Select, SetSpeed, SetSwitches, SetMotor}
 use Rattle.line.specs.declared.Order.{Order}
-use Rattle.line.specs.declared.Order.the-variants.{Go, Stop, StopAll, ChangeSpeed, Set, Ask, Mode, AllReply, AskHead, ClearErrors, ClearError}
+use Rattle.line.specs.declared.Order.the-variants.{Go, Stop, StopAll, ChangeSpeed, Set, Ask, AskHead, ForHead}
+use Rattle.line.specs.declared.HeadOrder.{HeadOrder}
+use Rattle.line.specs.declared.HeadOrder.the-variants.{Mode, AllReply, ClearErrors, ClearError}
 use Rattle.line.specs.declared.Parsed.{Parsed}
 use Rattle.line.specs.declared.Parsed.the-variants.{Is, Nothing}
 use Rattle.line.specs.Forms.{ssend, esend}
@@ -41,6 +43,12 @@ settingMade (SetSpeed k v) = leb k 2
 settingMade (SetSwitches q r) = eqb (r .a) 0
 settingMade (SetMotor q) = true
 
+abbrev pub headMade : HeadOrder → Bool
+headMade (Mode k) = leb k 1
+headMade (AllReply k) = leb k 1
+headMade ClearErrors = true
+headMade (ClearError e) = true
+
 -- an order as a line makes it
 unfoldable pub orderMade : Order → Bool
 orderMade (Go x s) = onBench x && startMade s
@@ -49,11 +57,8 @@ orderMade (StopAll flags) = endFlag flags
 orderMade (ChangeSpeed x v) = onBench x
 orderMade (Set x s) = onBench x && settingMade s
 orderMade (Ask x q) = onBench x
-orderMade (Mode k) = leb k 1
-orderMade (AllReply k) = leb k 1
 orderMade (AskHead q) = true
-orderMade ClearErrors = true
-orderMade (ClearError e) = true
+orderMade (ForHead h) = headMade h
 
 -- what a line is: such an order, or nothing
 abbrev pub parsedMade : Parsed → Bool

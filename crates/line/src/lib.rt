@@ -147,8 +147,20 @@ pub enum HeadQuestion {
     AskError,
 }
 
-// An order, with the channel that it names first. A stop carries the end flag that it sets; mode and all-reply carry the
-// byte that the head is to hold: 0 local, 1 remote; 0 off, 1 on.
+// What is to be changed in the head. Mode and all-reply carry the byte that it is to hold: 0 local, 1 remote; 0 off, 1 on.
+pub enum HeadOrder {
+    // LOC, REM
+    Mode(u8),
+    // ALL_REP EN, ALL_REP DS
+    AllReply(u8),
+    // ERRC
+    ClearErrors,
+    // ERRCe
+    ClearError(u64),
+}
+
+// An order, with the channel that it names first. A stop carries the end flag that it sets. What concerns the head has two
+// arms, one that asks and one that changes, so that no other line of the head adds an arm here.
 pub enum Order {
     Go(u8, Start),
     // SSTPx, ESTPx
@@ -159,15 +171,8 @@ pub enum Order {
     ChangeSpeed(u8, u64),
     Set(u8, Setting),
     Ask(u8, Question),
-    // LOC, REM
-    Mode(u8),
-    // ALL_REP EN, ALL_REP DS
-    AllReply(u8),
     AskHead(HeadQuestion),
-    // ERRC
-    ClearErrors,
-    // ERRCe
-    ClearError(u64),
+    ForHead(HeadOrder),
 }
 
 // What a line is: an order, or nothing that has one of the forms.

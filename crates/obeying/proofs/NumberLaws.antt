@@ -16,7 +16,7 @@ use Rattle.drive.specs.declared.Verdict.the-variants.{Done, NoForm, Busy, OutOf
 use Rattle.drive.specs.Numbers.{numberOf}
 use Rattle.drive.specs.Drives.{hindrance, towards, judgeStart}
 use Rattle.line.specs.declared.Order.{Order}
-use Rattle.line.specs.declared.Order.the-variants.{Go, Stop, StopAll, ChangeSpeed, Set, Ask, Mode, AllReply, AskHead, ClearErrors, ClearError}
+use Rattle.line.specs.declared.Order.the-variants.{Go, Stop, StopAll, ChangeSpeed, Set, Ask, AskHead, ForHead}
 use Rattle.line.specs.declared.Parsed.{Parsed}
 use Rattle.line.specs.declared.Parsed.the-variants.{Is, Nothing}
 use Rattle.table.specs.Layout.{mode, motorAt}

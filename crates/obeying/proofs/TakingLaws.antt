@@ -10,7 +10,7 @@ use Rattle.motor.specs.Sound.{setupInRange, soundMotor}
 use Rattle.motor.proofs.SoundLaws.{sound-parts}
 use Rattle.drive.specs.declared.Verdict.the-variants.{Done}
 use Rattle.line.specs.declared.Order.{Order}
-use Rattle.line.specs.declared.Order.the-variants.{Go, Stop, StopAll, ChangeSpeed, Set, Ask, Mode, AllReply, AskHead, ClearErrors, ClearError}
+use Rattle.line.specs.declared.Order.the-variants.{Go, Stop, StopAll, ChangeSpeed, Set, Ask, AskHead, ForHead}
 use Rattle.line.proofs.Order as T
 use Rattle.commands.specs.Answers.{told, answer}
 

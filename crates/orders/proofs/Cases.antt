@@ -12,7 +12,8 @@ use Rattle.line.specs.declared.Start.the-variants.{Abs, Rel, Scan, Jog}
 use Rattle.line.specs.declared.Setting.the-variants.{Preset, SetCwLimit, SetCcwLimit, Select, SetSpeed, SetSwitches, SetMotor}
 use Rattle.line.specs.declared.Question.the-variants.{AskPosition}
 use Rattle.line.specs.declared.HeadQuestion.the-variants.{AskError}
-use Rattle.line.specs.declared.Order.the-variants.{Go, Stop, StopAll, ChangeSpeed, Set, Ask, Mode, AllReply, AskHead, ClearErrors, ClearError}
+use Rattle.line.specs.declared.HeadOrder.the-variants.{Mode, AllReply, ClearErrors, ClearError}
+use Rattle.line.specs.declared.Order.the-variants.{Go, Stop, StopAll, ChangeSpeed, Set, Ask, AskHead, ForHead}
 use Rattle.orders.specs.Values.{needsRemote, valueInRange}
 use Rattle.orders.specs.Settings.{courseOf, withSetting}
 use Rattle.orders.specs.Computing.{computing-orders}
@@ -29,8 +30,8 @@ four a b c d = record { a = a; b = b; c = c; d = d }
 
 -- Starts, SPC, settings and all-reply need remote mode; stops, reads, LOC, REM and the ERR family do not.
 modes :
-    map needsRemote (Go 0 (Scan cw) ∷ ChangeSpeed 0 1 ∷ Set 0 (Select 2) ∷ AllReply 1
-    ∷ Stop 0 0x40 ∷ StopAll 0x80 ∷ Ask 0 AskPosition ∷ Mode 0 ∷ Mode 1 ∷ AskHead AskError ∷ ClearErrors ∷ ClearError 3 ∷ [])
+    map needsRemote (Go 0 (Scan cw) ∷ ChangeSpeed 0 1 ∷ Set 0 (Select 2) ∷ ForHead (AllReply 1)
+    ∷ Stop 0 0x40 ∷ StopAll 0x80 ∷ Ask 0 AskPosition ∷ ForHead (Mode 0) ∷ ForHead (Mode 1) ∷ AskHead AskError ∷ ForHead ClearErrors ∷ ForHead (ClearError 3) ∷ [])
     ≡ true ∷ true ∷ true ∷ true ∷ false ∷ false ∷ false ∷ false ∷ false ∷ false ∷ false ∷ false ∷ []
 unfolding computing-orders
 modes = refl
@@ -43,7 +44,7 @@ ranges :
     × (map (λ v. valueInRange (ChangeSpeed 0 v)) (0 ∷ 1 ∷ 5000000 ∷ 5000001 ∷ []) ≡ false ∷ true ∷ true ∷ false ∷ [])
     × (map (λ q. valueInRange (Set 0 (SetSwitches q (four 0 1 1 1)))) (four 1 1 1 1 ∷ four 2 1 1 1 ∷ four 1 1 1 2 ∷ []) ≡ true ∷ false ∷ false ∷ [])
     × (map (λ q. valueInRange (Set 0 (SetMotor q))) (four 1 1 0 2 ∷ four 2 0 0 0 ∷ four 0 2 0 0 ∷ four 0 0 1 0 ∷ four 0 0 0 3 ∷ []) ≡ true ∷ false ∷ false ∷ false ∷ false ∷ [])
-    × (map (λ e. valueInRange (ClearError e)) (0 ∷ 3 ∷ 4 ∷ 9 ∷ []) ≡ true ∷ true ∷ false ∷ false ∷ [])
+    × (map (λ e. valueInRange (ForHead (ClearError e))) (0 ∷ 3 ∷ 4 ∷ 9 ∷ []) ≡ true ∷ true ∷ false ∷ false ∷ [])
 unfolding computing-orders plus less four
 ranges = (refl, refl, refl, refl, refl, refl)
 

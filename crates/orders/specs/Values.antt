@@ -10,8 +10,17 @@ use Rattle.line.specs.declared.Start.{Start}
 use Rattle.line.specs.declared.Start.the-variants.{Abs, Rel, Scan, Jog}
 use Rattle.line.specs.declared.Setting.{Setting}
 use Rattle.line.specs.declared.Setting.the-variants.{Preset, SetCwLimit, SetCcwLimit, Select, SetSpeed, SetSwitches, SetMotor}
+use Rattle.line.specs.declared.HeadOrder.{HeadOrder}
+use Rattle.line.specs.declared.HeadOrder.the-variants.{Mode, AllReply, ClearErrors, ClearError}
 use Rattle.line.specs.declared.Order.{Order}
-use Rattle.line.specs.declared.Order.the-variants.{Go, Stop, StopAll, ChangeSpeed, Set, Ask, Mode, AllReply, AskHead, ClearErrors, ClearError}
+use Rattle.line.specs.declared.Order.the-variants.{Go, Stop, StopAll, ChangeSpeed, Set, Ask, AskHead, ForHead}
+
+-- of the orders of the head "LOC, REM and the ERR family are taken in both modes"
+abbrev pub headNeedsRemote : HeadOrder → Bool
+headNeedsRemote (Mode k) = false
+headNeedsRemote (AllReply k) = true
+headNeedsRemote ClearErrors = false
+headNeedsRemote (ClearError e) = false
 
 -- "Reads, the four stops, LOC, REM and the ERR family are taken in both modes; the rest need remote mode."
 unfoldable pub needsRemote : Order → Bool
@@ -21,11 +30,8 @@ needsRemote (StopAll e) = false
 needsRemote (ChangeSpeed x v) = true
 needsRemote (Set x s) = true
 needsRemote (Ask x q) = false
-needsRemote (Mode k) = false
-needsRemote (AllReply k) = true
 needsRemote (AskHead q) = false
-needsRemote ClearErrors = false
-needsRemote (ClearError e) = false
+needsRemote (ForHead h) = headNeedsRemote h
 
 -- "±d: .. its range the positions' range, REL's too"
 abbrev pub signedInRange : Written → Bool
@@ -56,7 +62,14 @@ settingInRange (SetSpeed k v) = isSpeed v
 settingInRange (SetSwitches q r) = binaryDigits q && binaryDigits r
 settingInRange (SetMotor q) = setupInRange (setupWritten q)
 
--- the value that an order carries is in its range; "ERRCe bit e, 0 to 3"
+-- the value of an order of the head is in its range: "ERRCe bit e, 0 to 3"
+abbrev pub headValueInRange : HeadOrder → Bool
+headValueInRange (Mode k) = true
+headValueInRange (AllReply k) = true
+headValueInRange ClearErrors = true
+headValueInRange (ClearError e) = leb e 3
+
+-- the value that an order carries is in its range
 unfoldable pub valueInRange : Order → Bool
 valueInRange (Go x s) = startInRange s
 valueInRange (Stop x e) = true
@@ -64,8 +77,5 @@ valueInRange (StopAll e) = true
 valueInRange (ChangeSpeed x v) = isSpeed v
 valueInRange (Set x s) = settingInRange s
 valueInRange (Ask x q) = true
-valueInRange (Mode k) = true
-valueInRange (AllReply k) = true
 valueInRange (AskHead q) = true
-valueInRange ClearErrors = true
-valueInRange (ClearError e) = leb e 3
+valueInRange (ForHead h) = headValueInRange h

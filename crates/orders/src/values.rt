@@ -1,6 +1,7 @@
 // What the line itself tells of an order: whether it is taken in local mode, and whether its value is in range.
 
 use line::Four;
+use line::HeadOrder;
 use line::Order;
 use line::Setting;
 use line::Start;
@@ -9,8 +10,20 @@ use motor::setup_in_range;
 use record::Setup;
 ghost use mathlib.Core.Path.{_≡_};
 ghost use Rattle.motor.specs.Sound.{isSpeed};
-ghost use Rattle.orders.specs.Values.{needsRemote, signedInRange, binaryDigits, setupWritten, startInRange};
-ghost use Rattle.orders.specs.Values.{settingInRange, valueInRange};
+ghost use Rattle.orders.specs.Values.{headNeedsRemote, needsRemote, signedInRange, binaryDigits, setupWritten, startInRange};
+ghost use Rattle.orders.specs.Values.{settingInRange, headValueInRange, valueInRange};
+
+// Whether an order of the head is taken in remote mode only.
+fn head_needs_remote(h: HeadOrder) -> bool
+    ensures { λ r. ⌜ r ≡ headNeedsRemote h ⌝ }
+{
+    match h {
+        HeadOrder::Mode(_) => false,
+        HeadOrder::AllReply(_) => true,
+        HeadOrder::ClearErrors => false,
+        HeadOrder::ClearError(_) => false,
+    }
+}
 
 // Whether an order is taken in remote mode only.
 pub fn needs_remote(o: Order) -> bool
@@ -23,11 +36,8 @@ pub fn needs_remote(o: Order) -> bool
         Order::ChangeSpeed(_, _) => true,
         Order::Set(_, _) => true,
         Order::Ask(_, _) => false,
-        Order::Mode(_) => false,
-        Order::AllReply(_) => true,
         Order::AskHead(_) => false,
-        Order::ClearErrors => false,
-        Order::ClearError(_) => false,
+        Order::ForHead(h) => head_needs_remote(h),
     }
 }
 
@@ -91,6 +101,18 @@ fn setting_in_range(s: Setting) -> bool
     }
 }
 
+// Whether the value of an order of the head is in its range.
+fn head_value_in_range(h: HeadOrder) -> bool
+    ensures { λ r. ⌜ r ≡ headValueInRange h ⌝ }
+{
+    match h {
+        HeadOrder::Mode(_) => true,
+        HeadOrder::AllReply(_) => true,
+        HeadOrder::ClearErrors => true,
+        HeadOrder::ClearError(e) => e <= 3,
+    }
+}
+
 // Whether the value that an order carries is in its range.
 pub fn value_in_range(o: Order) -> bool
     ensures { λ r. ⌜ r ≡ valueInRange o ⌝ }
@@ -102,10 +124,7 @@ pub fn value_in_range(o: Order) -> bool
         Order::ChangeSpeed(_, v) => speed_in_range(v),
         Order::Set(_, s) => setting_in_range(s),
         Order::Ask(_, _) => true,
-        Order::Mode(_) => true,
-        Order::AllReply(_) => true,
         Order::AskHead(_) => true,
-        Order::ClearErrors => true,
-        Order::ClearError(e) => e <= 3,
+        Order::ForHead(h) => head_value_in_range(h),
     }
 }

@@ -25,17 +25,11 @@ enum-told-6 c = search needs
 enum-told-7 : tie.Need-enum-told-7
 enum-told-7 c = search needs
 
-enum-told-8 : tie.Need-enum-told-8
-enum-told-8 c = search needs
+enum-known-o : tie.Need-enum-known-o
+enum-known-o c = search needs
 
-enum-told-9 : tie.Need-enum-told-9
-enum-told-9 c = search needs
-
-enum-told-10 : tie.Need-enum-told-10
-enum-told-10 c = search needs
-
-enum-told-11 : tie.Need-enum-told-11
-enum-told-11 c = search needs
+head-needs-remote-requires : tie.Need-head-needs-remote-requires
+head-needs-remote-requires c κs = search needs
 
 returns : tie.Need-returns
 unfolding needsRemote
@@ -67,19 +61,7 @@ returns-7 c = rw (c .enum-told7 .given .1)
 
 returns-8 : tie.Need-returns-8
 unfolding needsRemote
-returns-8 c = rw (c .enum-told8 .given .1)
-
-returns-9 : tie.Need-returns-9
-unfolding needsRemote
-returns-9 c = rw (c .enum-told9 .given .1)
-
-returns-10 : tie.Need-returns-10
-unfolding needsRemote
-returns-10 c = rw (c .enum-told10 .given .1)
-
-returns-11 : tie.Need-returns-11
-unfolding needsRemote
-returns-11 c = rw (c .enum-told11 .given .1)
+returns-8 c = rw (c .before .before .o .given .1, c .head-needs-remote .ensures)
 
 pub needs-remote-spec : {M : Type 1} → statement M
 needs-remote-spec =
@@ -92,10 +74,8 @@ needs-remote-spec =
     enum-told-5
     enum-told-6
     enum-told-7
-    enum-told-8
-    enum-told-9
-    enum-told-10
-    enum-told-11
+    enum-known-o
+    head-needs-remote-requires
     returns
     returns-2
     returns-3
@@ -103,7 +83,4 @@ needs-remote-spec =
     returns-5
     returns-6
     returns-7
-    returns-8
-    returns-9
-    returns-10
-    returns-11)
+    returns-8)

@@ -34,17 +34,11 @@ enum-told-3 c = search needs
 enum-told-4 : tie.Need-enum-told-4
 enum-told-4 c = search needs
 
-enum-told-5 : tie.Need-enum-told-5
-enum-told-5 c = search needs
-
-enum-told-6 : tie.Need-enum-told-6
-enum-told-6 c = search needs
-
-enum-told-7 : tie.Need-enum-told-7
-enum-told-7 c = search needs
-
 enum-known-o-4 : tie.Need-enum-known-o-4
 enum-known-o-4 c = search needs
+
+head-value-in-range-requires : tie.Need-head-value-in-range-requires
+head-value-in-range-requires c κs = search needs
 
 returns : tie.Need-returns
 unfolding valueInRange
@@ -76,19 +70,7 @@ returns-7 c = rw (c .enum-told4 .given .1)
 
 returns-8 : tie.Need-returns-8
 unfolding valueInRange
-returns-8 c = rw (c .enum-told5 .given .1)
-
-returns-9 : tie.Need-returns-9
-unfolding valueInRange
-returns-9 c = rw (c .enum-told6 .given .1)
-
-returns-10 : tie.Need-returns-10
-unfolding valueInRange
-returns-10 c = rw (c .enum-told7 .given .1)
-
-returns-11 : tie.Need-returns-11
-unfolding valueInRange
-returns-11 c = rw (c .before .o4 .given .1)
+returns-8 c = rw (c .before .before .o4 .given .1, c .head-value-in-range .ensures)
 
 pub value-in-range-spec : {M : Type 1} → statement M
 value-in-range-spec =
@@ -104,10 +86,8 @@ value-in-range-spec =
     setting-in-range-requires
     enum-told-3
     enum-told-4
-    enum-told-5
-    enum-told-6
-    enum-told-7
     enum-known-o-4
+    head-value-in-range-requires
     returns
     returns-2
     returns-3
@@ -115,7 +95,4 @@ value-in-range-spec =
     returns-5
     returns-6
     returns-7
-    returns-8
-    returns-9
-    returns-10
-    returns-11)
+    returns-8)
