@@ -1,3 +1,4 @@
+pub mod NumberLaws
 pub mod Laws
 pub mod KeptSound
 pub mod Cases

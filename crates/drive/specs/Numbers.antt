@@ -1,5 +1,7 @@
 -- Document 01, "Numbers handed back".
 use Prim.Native.Nat.{ℕ}
+use mathlib.Core.Bool.{Bool, _&&_, cond}
+use lib.Dec.{eqb, leb}
 use Rattle.drive.specs.declared.Verdict.{Verdict}
 use Rattle.drive.specs.declared.Verdict.the-variants.{Done, NoForm, Busy, OutOfRange, LocalMode, Disabled, SwitchAhead, NoRoom, NotDriving, WrongSize, NotSound}
 
@@ -23,3 +25,12 @@ numberOf NoRoom = 4
 numberOf NotDriving = 4
 numberOf WrongSize = 5
 numberOf NotSound = 6
+
+-- the numbers that a line is refused with, and that leave their flag: "Numbers 1 to 4"; the others but 0, "5 and 6", "change
+-- nothing anywhere"
+abbrev pub isRefusal : ℕ → Bool
+isRefusal n = leb 1 n && leb n 4
+
+-- "Numbers 1 to 4 set error flag bits 0 to 3 in turn": the bit of each; the number that is left over sets bit 3
+unfoldable pub flagBit : ℕ → ℕ
+flagBit n = cond (eqb n 1) 0 (cond (eqb n 2) 1 (cond (eqb n 3) 2 3))

@@ -2,6 +2,8 @@
 // it is judged; none of them asks that the motor is sound. What each rule of the bench says stands
 // in specs/.
 
+pub mod numbers;
+
 use digits::choose;
 use digits::places::CCW;
 use digits::places::CW;

@@ -10,6 +10,7 @@ use Rattle.record.specs.Record.{freshMotor, standing, withPlace, withSpeeds, wi
 use Rattle.drive.specs.declared.Course.the-variants.{To, Along}
 use Rattle.drive.specs.declared.Verdict.the-variants.{Done, NoForm, Busy, OutOfRange, LocalMode, Disabled, SwitchAhead, NoRoom, NotDriving, WrongSize, NotSound}
 use Rattle.drive.specs.Drives.{started, stopped}
+use Rattle.table.specs.declared.head.Head.{Head}
 use Rattle.line.specs.declared.Question.the-variants.{AskPosition, AskCwLimit, AskCcwLimit, AskSelected, AskSpeed, AskSwitches, AskMotor, AskStatus}
 use Rattle.line.specs.declared.HeadQuestion.the-variants.{AskAllReply, AskFlags, AskError}
 use Rattle.replies.specs.Replies.{echo, headText, questionText}
@@ -29,21 +30,25 @@ silent : map (echo 0) (Done ∷ NoForm ∷ Busy ∷ OutOfRange ∷ LocalMode ∷
 unfolding computing-replies
 silent = refl
 
+-- a head with all-reply and error flags
+abbrev heading : ℕ → ℕ → Head
+heading all flags = record { mode = 1; reply = all; errors = flags }
+
 -- `ALL_REP?`, and `ERRF?` in capitals
 about-head :
-    (headText 1 0 AskAllReply ≡ bytes "EN")
-    × (headText 0 0 AskAllReply ≡ bytes "DS")
-    × (map (λ e. headText 0 e AskFlags) (0 ∷ 8 ∷ 10 ∷ 15 ∷ 255 ∷ []) ≡ bytes "00" ∷ bytes "08" ∷ bytes "0A" ∷ bytes "0F" ∷ bytes "FF" ∷ [])
+    (headText (heading 1 0) AskAllReply ≡ bytes "EN")
+    × (headText (heading 0 0) AskAllReply ≡ bytes "DS")
+    × (map (λ e. headText (heading 0 e) AskFlags) (0 ∷ 8 ∷ 10 ∷ 15 ∷ 255 ∷ []) ≡ bytes "00" ∷ bytes "08" ∷ bytes "0A" ∷ bytes "0F" ∷ bytes "FF" ∷ [])
 unfolding computing-replies
 about-head = (refl, refl, refl)
 
 -- `ERR?` with each set of flags, 0 to 15: the lowest that is set has its text.
 errors :
-    (map (λ e. headText 0 e AskError) (0 ∷ 8 ∷ []) ≡ bytes "NO ERROR" ∷ bytes "OTHER ERROR" ∷ [])
-    × (map (λ e. headText 0 e AskError) (4 ∷ 12 ∷ []) ≡ replicate 2 (bytes "PARAMETER ERROR"))
-    × (map (λ e. headText 0 e AskError) (2 ∷ 6 ∷ 10 ∷ 14 ∷ [])
+    (map (λ e. headText (heading 0 e) AskError) (0 ∷ 8 ∷ []) ≡ bytes "NO ERROR" ∷ bytes "OTHER ERROR" ∷ [])
+    × (map (λ e. headText (heading 0 e) AskError) (4 ∷ 12 ∷ []) ≡ replicate 2 (bytes "PARAMETER ERROR"))
+    × (map (λ e. headText (heading 0 e) AskError) (2 ∷ 6 ∷ 10 ∷ 14 ∷ [])
     ≡ replicate 4 (bytes "MCC06 BUSY ERROR"))
-    × (map (λ e. headText 0 e AskError) (1 ∷ 3 ∷ 5 ∷ 7 ∷ 9 ∷ 11 ∷ 13 ∷ 15 ∷ [])
+    × (map (λ e. headText (heading 0 e) AskError) (1 ∷ 3 ∷ 5 ∷ 7 ∷ 9 ∷ 11 ∷ 13 ∷ 15 ∷ [])
     ≡ replicate 8 (bytes "COMMAND ERROR"))
 unfolding computing-replies
 errors = (refl, refl, refl, refl)
@@ -62,8 +67,8 @@ positions = refl
 -- Numbers that no sound table has are answered too: a place past the range, flags past the fourth, another speed's number.
 unsound :
     (atPlace 0 ≡ bytes "-2147483648")
-    × (headText 2 0 AskAllReply ≡ bytes "DS")
-    × (headText 0 16 AskError ≡ bytes "NO ERROR")
+    × (headText (heading 2 0) AskAllReply ≡ bytes "DS")
+    × (headText (heading 0 16) AskError ≡ bytes "NO ERROR")
     × (questionText 1 0 freshMotor (AskSpeed 3) ≡ bytes "001000")
 unfolding computing-replies atPlace
 unsound = (refl, refl, refl, refl)

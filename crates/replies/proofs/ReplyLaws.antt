@@ -1,14 +1,12 @@
--- Laws of replies: what the causes of number 4 share, and how long a reply is. Assumes nothing.
+-- How long a reply is. Assumes nothing.
 use mathlib.Core.Path.{_≡_, refl, sym}
-use mathlib.Core.List.{List, [], _∷_}
-use mathlib.Core.Bool.{Bool, true, false, cond}
+use mathlib.Core.List.{List, []}
+use mathlib.Core.Bool.{Bool, true, false, _||_, cond}
 use Prim.Native.Nat.{ℕ, _≤_}
 use native.Mathlib.Omega.{arith}
 use lib.ListN.{length}
 use lib.Dec.{eqb}
-use types.Run.{OneOf, miss}
 use borrow.Author.Tests.{leb-true, eqb-true}
-use denote.Enum.Declared.{tagOf}
 use Rattle.digits.specs.Words.{isSet}
 use Rattle.text.specs.Text.{Wrote, bytes, hexByte}
 use Rattle.digits.proofs.PutLaws.{put-none}
@@ -18,36 +16,16 @@ use Rattle.record.specs.declared.Setup.{Setup}
 use Rattle.motor.specs.Sound.{setupInRange}
 use Rattle.motor.proofs.SoundLaws.{and-l, and-r}
 use Rattle.drive.specs.declared.Verdict.{Verdict}
-use Rattle.drive.specs.declared.Verdict.the-variants.{Done, NoForm, Busy, OutOfRange, LocalMode, Disabled, SwitchAhead, NoRoom, NotDriving, WrongSize, NotSound}
 use Rattle.drive.specs.Numbers.{numberOf}
 use Rattle.drive.specs.Drives.{speedNumbered}
-use Rattle.drive.proofs.Verdict as T
+use Rattle.table.specs.declared.head.Head.{Head}
 use Rattle.line.specs.declared.Question.{Question}
 use Rattle.line.specs.declared.Question.the-variants.{AskPosition, AskCwLimit, AskCcwLimit, AskSelected, AskSpeed, AskSwitches, AskMotor, AskStatus}
 use Rattle.line.specs.declared.HeadQuestion.{HeadQuestion}
 use Rattle.line.specs.declared.HeadQuestion.the-variants.{AskAllReply, AskFlags, AskError}
 use Rattle.status.proofs.StatusLaws.{position-within}
-use Rattle.replies.specs.Replies.{textOf, selectedText, switchesText, motorText, questionText, errorText, echo, headText}
+use Rattle.replies.specs.Replies.{textOf, selectedText, switchesText, motorText, questionText, errorText, echo, allReplyText, headText}
 use Rattle.status.specs.Status.{statusText}
-
--- the causes of number 4, by where they stand among the verdicts
-abbrev causes : List ℕ
-causes = 4 ∷ 5 ∷ 6 ∷ 7 ∷ 8 ∷ []
-
--- They share their number and their text.
-pub causes-share : (v : Verdict) → OneOf causes (tagOf T.the-type v) → (numberOf v ≡ 4) × (textOf v ≡ bytes "NG")
-unfolding numberOf textOf
-causes-share Done h = absurd (miss causes 0 tt h)
-causes-share NoForm h = absurd (miss causes 1 tt h)
-causes-share Busy h = absurd (miss causes 2 tt h)
-causes-share OutOfRange h = absurd (miss causes 3 tt h)
-causes-share LocalMode h = (refl, refl)
-causes-share Disabled h = (refl, refl)
-causes-share SwitchAhead h = (refl, refl)
-causes-share NoRoom h = (refl, refl)
-causes-share NotDriving h = (refl, refl)
-causes-share WrongSize h = absurd (miss causes 9 tt h)
-causes-share NotSound h = absurd (miss causes 10 tt h)
 
 -- Nothing written leaves the buffer as it was.
 pub wrote-none : (t : List ℕ) → Wrote t t [] 0
@@ -58,29 +36,24 @@ pub setup-small : (s : Setup) → setupInRange s ≡ true → (s .a ≤ 1) × (s
 unfolding setupInRange
 setup-small s e = search (and-l, and-r, leb-true, eqb-true)
 
--- No reply is longer than 17 bytes: the status of a motor at an end of the range is that long.
-text-within : (v : Verdict) → length (textOf v) ≤ 17
-unfolding textOf bytes
-text-within Done = omega arith
-text-within NoForm = omega arith
-text-within Busy = omega arith
-text-within OutOfRange = omega arith
-text-within LocalMode = omega arith
-text-within Disabled = omega arith
-text-within SwitchAhead = omega arith
-text-within NoRoom = omega arith
-text-within NotDriving = omega arith
-text-within WrongSize = omega arith
-text-within NotSound = omega arith
-
 -- one of two texts that are short enough
 choice-within : (t : Bool) (a b : List ℕ) → length a ≤ 17 → length b ≤ 17 → length (cond t a b) ≤ 17
 choice-within true a b f g = f
 choice-within false a b f g = g
 
+-- No reply is longer than 17 bytes: the status of a motor at an end of the range is that long.
+text-within : (n : ℕ) → length (textOf n) ≤ 17
+unfolding textOf bytes
+text-within n =
+    choice-within (eqb n 0) _ _ (omega arith)
+    (choice-within (eqb n 1) _ _ (omega arith)
+    (choice-within (eqb n 2) _ _ (omega arith)
+    (choice-within (eqb n 3) _ _ (omega arith)
+    (choice-within (eqb n 5 || eqb n 6) _ _ (omega arith) (omega arith)))))
+
 pub echo-within : (all : ℕ) (v : Verdict) → length (echo all v) ≤ 17
 unfolding echo
-echo-within all v = choice-within (eqb all 1) (textOf v) [] (text-within v) (omega arith)
+echo-within all v = choice-within (eqb all 1) (textOf (numberOf v)) [] (text-within (numberOf v)) (omega arith)
 
 error-within : (e : ℕ) → length (errorText e) ≤ 17
 unfolding errorText bytes
@@ -90,11 +63,11 @@ error-within e =
     (choice-within (isSet 2 e) _ _ (omega arith)
     (choice-within (isSet 3 e) _ _ (omega arith) (omega arith))))
 
-pub head-within : (all flags : ℕ) (q : HeadQuestion) → length (headText all flags q) ≤ 17
-unfolding headText bytes hexByte
-head-within all flags AskAllReply = choice-within (eqb all 1) _ _ (omega arith) (omega arith)
-head-within all flags AskFlags = omega arith
-head-within all flags AskError = error-within flags
+pub head-within : (h : Head) (q : HeadQuestion) → length (headText h q) ≤ 17
+unfolding headText allReplyText bytes hexByte
+head-within h AskAllReply = choice-within (eqb (h .reply) 1) _ _ (omega arith) (omega arith)
+head-within h AskFlags = omega arith
+head-within h AskError = error-within (h .errors)
 
 status-within : (k x : ℕ) (m : Motor) → length (statusText k x m) ≤ 17
 unfolding statusText hexByte

@@ -1,7 +1,7 @@
 -- Document 01, "Numbers handed back": what is answered.
 use Prim.Native.Nat.{ℕ}
 use mathlib.Core.List.{List, [], _∷_}
-use mathlib.Core.Bool.{cond}
+use mathlib.Core.Bool.{_||_, cond}
 use lib.Dec.{eqb}
 use Rattle.digits.specs.Words.{bit, isSet}
 use Rattle.digits.specs.Places.{cw}
@@ -10,26 +10,23 @@ use Rattle.record.specs.declared.Setup.{Setup}
 use Rattle.record.specs.declared.Motor.{Motor}
 use Rattle.status.specs.Status.{positionText, statusText}
 use Rattle.drive.specs.declared.Verdict.{Verdict}
-use Rattle.drive.specs.declared.Verdict.the-variants.{Done, NoForm, Busy, OutOfRange, LocalMode, Disabled, SwitchAhead, NoRoom, NotDriving, WrongSize, NotSound}
+use Rattle.drive.specs.Numbers.{numberOf}
 use Rattle.drive.specs.Drives.{speedNumbered}
+use Rattle.table.specs.declared.head.Head.{Head}
 use Rattle.line.specs.declared.Question.{Question}
 use Rattle.line.specs.declared.Question.the-variants.{AskPosition, AskCwLimit, AskCcwLimit, AskSelected, AskSpeed, AskSwitches, AskMotor, AskStatus}
 use Rattle.line.specs.declared.HeadQuestion.{HeadQuestion}
 use Rattle.line.specs.declared.HeadQuestion.the-variants.{AskAllReply, AskFlags, AskError}
 
--- "No. | Text": the text for each number; 5 and 6 have "none"
-unfoldable pub textOf : Verdict → List ℕ
-textOf Done = bytes "OK"
-textOf NoForm = bytes "COMMAND ERROR"
-textOf Busy = bytes "MCC06 BUSY ERROR"
-textOf OutOfRange = bytes "PARAMETER ERROR"
-textOf LocalMode = bytes "NG"
-textOf Disabled = bytes "NG"
-textOf SwitchAhead = bytes "NG"
-textOf NoRoom = bytes "NG"
-textOf NotDriving = bytes "NG"
-textOf WrongSize = []
-textOf NotSound = []
+-- "No. | Text": the text for each number; 5 and 6 have "none", and what is left over has NG
+unfoldable pub textOf : ℕ → List ℕ
+textOf n =
+    cond (eqb n 0) (bytes "OK")
+    (cond (eqb n 1) (bytes "COMMAND ERROR")
+    (cond (eqb n 2) (bytes "MCC06 BUSY ERROR")
+    (cond (eqb n 3) (bytes "PARAMETER ERROR")
+    (cond (eqb n 5 || eqb n 6) []
+    (bytes "NG")))))
 
 -- "speeds, at least 6"
 abbrev pub speedText : ℕ → List ℕ
@@ -72,11 +69,14 @@ errorText e =
 -- "Other commands, and numbers 1 to 4, write their text if all-reply is on after the command, else nothing": `all` is the
 -- head's all-reply after the command
 unfoldable pub echo : ℕ → Verdict → List ℕ
-echo all v = cond (eqb all 1) (textOf v) []
+echo all v = cond (eqb all 1) (textOf (numberOf v)) []
 
--- what is answered to a question about the head, with its all-reply and its error flags: "`ALL_REP?` EN or DS"; "`ERRF?` two
--- hex digits"
-unfoldable pub headText : ℕ → ℕ → HeadQuestion → List ℕ
-headText all flags AskAllReply = cond (eqb all 1) (bytes "EN") (bytes "DS")
-headText all flags AskFlags = hexByte flags
-headText all flags AskError = errorText flags
+-- "`ALL_REP?` EN or DS"
+unfoldable pub allReplyText : ℕ → List ℕ
+allReplyText all = cond (eqb all 1) (bytes "EN") (bytes "DS")
+
+-- what is answered to a question about the head: "`ERRF?` two hex digits"
+unfoldable pub headText : Head → HeadQuestion → List ℕ
+headText h AskAllReply = allReplyText (h .reply)
+headText h AskFlags = hexByte (h .errors)
+headText h AskError = errorText (h .errors)

@@ -15,6 +15,7 @@ use line::HeadQuestion;
 use line::Question;
 use record::Motor;
 use status::write_status;
+use table::head::Head;
 use text::decimal::write_decimal;
 use text::decimal::write_signed;
 use text::hex::write_hex;
@@ -24,23 +25,7 @@ ghost use Prim.Native.Nat.{_≤_};
 ghost use lib.ListN.{length};
 ghost use Rattle.text.specs.Text.{Wrote};
 ghost use Rattle.motor.specs.Sound.{setupInRange};
-ghost use Rattle.drive.specs.Numbers.{numberOf};
 ghost use Rattle.replies.specs.Replies.{echo, headText, questionText};
-
-// The number that is handed back for a verdict.
-pub fn number_of(v: Verdict) -> u32
-    ensures { λ r. ⌜ r ≡ numberOf v ⌝ }
-{
-    match v {
-        Verdict::Done => 0,
-        Verdict::NoForm => 1,
-        Verdict::Busy => 2,
-        Verdict::OutOfRange => 3,
-        Verdict::WrongSize => 5,
-        Verdict::NotSound => 6,
-        _ => 4,
-    }
-}
 
 // The text of a verdict where all-reply is on, else nothing.
 pub fn write_echo(out: &mut [u8], all: u8, v: Verdict) -> usize
@@ -52,18 +37,18 @@ pub fn write_echo(out: &mut [u8], all: u8, v: Verdict) -> usize
 }
 
 // What is answered to a question about the head.
-pub fn write_head(out: &mut [u8], all: u8, flags: u8, q: HeadQuestion) -> usize
+pub fn write_head_question(out: &mut [u8], h: Head, q: HeadQuestion) -> usize
     requires { ⌜ 32 ≤ length (now out) ⌝ }
-    ensures { λ r. ⌜ Wrote (now (out .entry)) (now (out .exit)) (headText all flags q) r ⌝ }
+    ensures { λ r. ⌜ Wrote (now (out .entry)) (now (out .exit)) (headText h q) r ⌝ }
     ensures { λ r. ⌜ r ≤ 32 ⌝ }
 {
     match q {
-        HeadQuestion::AskAllReply => write_all_reply(out, all),
+        HeadQuestion::AskAllReply => write_all_reply(out, h.reply),
         HeadQuestion::AskFlags => {
-            write_hex(out, flags);
+            write_hex(out, h.errors);
             2
         }
-        HeadQuestion::AskError => write_error(out, flags),
+        HeadQuestion::AskError => write_error(out, h.errors),
     }
 }
 

@@ -2,12 +2,13 @@
 
 use digits::is_set;
 use drive::Verdict;
+use drive::numbers::number_of;
 ghost use mathlib.Core.Path.{_≡_};
 ghost use Prim.Native.Nat.{_≤_};
 ghost use lib.ListN.{length};
 ghost use Rattle.text.specs.Text.{Wrote};
-ghost use Rattle.line.specs.declared.HeadQuestion.the-variants.{AskAllReply};
-ghost use Rattle.replies.specs.Replies.{textOf, errorText, headText};
+ghost use Rattle.drive.specs.Numbers.{numberOf};
+ghost use Rattle.replies.specs.Replies.{textOf, errorText, allReplyText};
 
 // A quoted text: what is answered is how long it is.
 pub fn write_text(out: &mut [u8], text: &[u8]) -> usize
@@ -22,18 +23,18 @@ pub fn write_text(out: &mut [u8], text: &[u8]) -> usize
     i
 }
 
-// The text of a verdict, if it has one: the causes of number 4 share theirs.
+// The text of a verdict, if it has one: by its number, so that a cause of a refusal needs no arm of its own.
 pub fn write_verdict(out: &mut [u8], v: Verdict) -> usize
     requires { ⌜ 32 ≤ length (now out) ⌝ }
-    ensures { λ r. ⌜ Wrote (now (out .entry)) (now (out .exit)) (textOf v) r ⌝ }
+    ensures { λ r. ⌜ Wrote (now (out .entry)) (now (out .exit)) (textOf (numberOf v)) r ⌝ }
 {
-    match v {
-        Verdict::Done => write_text(out, b"OK"),
-        Verdict::NoForm => write_text(out, b"COMMAND ERROR"),
-        Verdict::Busy => write_text(out, b"MCC06 BUSY ERROR"),
-        Verdict::OutOfRange => write_text(out, b"PARAMETER ERROR"),
-        Verdict::WrongSize => 0,
-        Verdict::NotSound => 0,
+    match number_of(v) {
+        0 => write_text(out, b"OK"),
+        1 => write_text(out, b"COMMAND ERROR"),
+        2 => write_text(out, b"MCC06 BUSY ERROR"),
+        3 => write_text(out, b"PARAMETER ERROR"),
+        5 => 0,
+        6 => 0,
         _ => write_text(out, b"NG"),
     }
 }
@@ -59,7 +60,7 @@ pub fn write_error(out: &mut [u8], flags: u8) -> usize
 // Whether all-reply is on.
 pub fn write_all_reply(out: &mut [u8], all: u8) -> usize
     requires { ⌜ 32 ≤ length (now out) ⌝ }
-    ensures { λ r. ⌜ Wrote (now (out .entry)) (now (out .exit)) (headText all 0 AskAllReply) r ⌝ }
+    ensures { λ r. ⌜ Wrote (now (out .entry)) (now (out .exit)) (allReplyText all) r ⌝ }
 {
     if all == 1 {
         write_text(out, b"EN")

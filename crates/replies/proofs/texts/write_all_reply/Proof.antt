@@ -2,7 +2,7 @@
 use borrow.Author.Tests.{eq-eqb, ne-eqb}
 use borrow.Author.Needs.{needs}
 use Rattle.text.specs.Text.{bytes}
-use Rattle.replies.specs.Replies.{headText}
+use Rattle.replies.specs.Replies.{allReplyText}
 use Rattle.replies.proofs.texts.write_all_reply.Statement.{statement}
 use Rattle.replies.proofs.texts.write_all_reply.Tie as tie
 
@@ -22,14 +22,14 @@ same-length : tie.Need-same-length
 same-length c = search needs
 
 returns : tie.Need-returns
-unfolding headText bytes
+unfolding allReplyText bytes
 returns c = rw (eq-eqb _ _ (c .before .before .before .before .before .if1 .taken)) (c .before .before .write-text .ensures)
 
 same-length-2 : tie.Need-same-length-2
 same-length-2 c = search needs
 
 returns-2 : tie.Need-returns-2
-unfolding headText bytes
+unfolding allReplyText bytes
 returns-2 c = rw (ne-eqb _ _ (c .before .before .before .before .before .if1 .left)) (c .before .before .write-text2 .ensures)
 
 pub write-all-reply-spec : {M : Type 1} → statement M

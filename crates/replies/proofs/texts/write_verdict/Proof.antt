@@ -1,14 +1,22 @@
 -- `replies::texts::write_verdict` meets its contract. Assumes nothing.
-use borrow.Author.Needs.{needs}
+use mathlib.Core.Path.{_≡_}
+use Prim.Native.Nat.{ℕ}
 use denote.Ref.{now}
+use borrow.Author.Tests.{ne-eqb}
+use borrow.Author.Needs.{needs}
 use Rattle.text.specs.Text.{bytes}
 use Rattle.replies.specs.Replies.{textOf}
-use Rattle.replies.proofs.ReplyLaws.{causes-share, wrote-none}
+use Rattle.replies.proofs.ReplyLaws.{wrote-none}
 use Rattle.replies.proofs.texts.write_verdict.Statement.{statement}
 use Rattle.replies.proofs.texts.write_verdict.Tie as tie
 
-enum-told : tie.Need-enum-told
-enum-told c = search needs
+-- what is left over has NG
+left-over : (n : ℕ) → (n ≡ 0 → ⊥) → (n ≡ 1 → ⊥) → (n ≡ 2 → ⊥) → (n ≡ 3 → ⊥) → (n ≡ 5 → ⊥) → (n ≡ 6 → ⊥) → textOf n ≡ bytes "NG"
+unfolding textOf
+left-over n a b c d e f = rw (ne-eqb n 0 a, ne-eqb n 1 b, ne-eqb n 2 c, ne-eqb n 3 d, ne-eqb n 5 e, ne-eqb n 6 f)
+
+number-of-requires : tie.Need-number-of-requires
+number-of-requires c κs = search needs
 
 slice-aggregate-write-text : tie.Need-slice-aggregate-write-text
 slice-aggregate-write-text c = search needs
@@ -16,17 +24,11 @@ slice-aggregate-write-text c = search needs
 write-text-requires : tie.Need-write-text-requires
 write-text-requires c κs = search needs
 
-enum-told-2 : tie.Need-enum-told-2
-enum-told-2 c = search needs
-
 slice-aggregate-write-text-2 : tie.Need-slice-aggregate-write-text-2
 slice-aggregate-write-text-2 c = search needs
 
 write-text-requires-2 : tie.Need-write-text-requires-2
 write-text-requires-2 c κs = search needs
-
-enum-told-3 : tie.Need-enum-told-3
-enum-told-3 c = search needs
 
 slice-aggregate-write-text-3 : tie.Need-slice-aggregate-write-text-3
 slice-aggregate-write-text-3 c = search needs
@@ -34,20 +36,11 @@ slice-aggregate-write-text-3 c = search needs
 write-text-requires-3 : tie.Need-write-text-requires-3
 write-text-requires-3 c κs = search needs
 
-enum-told-4 : tie.Need-enum-told-4
-enum-told-4 c = search needs
-
 slice-aggregate-write-text-4 : tie.Need-slice-aggregate-write-text-4
 slice-aggregate-write-text-4 c = search needs
 
 write-text-requires-4 : tie.Need-write-text-requires-4
 write-text-requires-4 c κs = search needs
-
-enum-told-5 : tie.Need-enum-told-5
-enum-told-5 c = search needs
-
-enum-told-6 : tie.Need-enum-told-6
-enum-told-6 c = search needs
 
 slice-aggregate-write-text-5 : tie.Need-slice-aggregate-write-text-5
 slice-aggregate-write-text-5 c = search needs
@@ -60,36 +53,44 @@ same-length c = search needs
 
 returns : tie.Need-returns
 unfolding textOf bytes
-returns c = rw (c .before .before .before .before .before .enum-told .given .1) (c .before .before .write-text .ensures)
+returns c =
+    let s = c .before .before .before .before .before in
+    rw (← s .before .number-of .ensures, s .match .keys1) (c .before .before .write-text .ensures)
 
 same-length-2 : tie.Need-same-length-2
 same-length-2 c = search needs
 
 returns-2 : tie.Need-returns-2
 unfolding textOf bytes
-returns-2 c = rw (c .before .before .before .before .before .enum-told2 .given .1) (c .before .before .write-text2 .ensures)
+returns-2 c =
+    let s = c .before .before .before .before .before in
+    rw (← s .before .number-of .ensures, s .match .keys2) (c .before .before .write-text2 .ensures)
 
 same-length-3 : tie.Need-same-length-3
 same-length-3 c = search needs
 
 returns-3 : tie.Need-returns-3
 unfolding textOf bytes
-returns-3 c = rw (c .before .before .before .before .before .enum-told3 .given .1) (c .before .before .write-text3 .ensures)
+returns-3 c =
+    let s = c .before .before .before .before .before in
+    rw (← s .before .number-of .ensures, s .match .keys3) (c .before .before .write-text3 .ensures)
 
 same-length-4 : tie.Need-same-length-4
 same-length-4 c = search needs
 
 returns-4 : tie.Need-returns-4
 unfolding textOf bytes
-returns-4 c = rw (c .before .before .before .before .before .enum-told4 .given .1) (c .before .before .write-text4 .ensures)
+returns-4 c =
+    let s = c .before .before .before .before .before in
+    rw (← s .before .number-of .ensures, s .match .keys4) (c .before .before .write-text4 .ensures)
 
 returns-5 : tie.Need-returns-5
 unfolding textOf
-returns-5 c = rw (c .enum-told5 .given .1) (wrote-none (now (c .before .before .before .args .out)))
+returns-5 c = rw (← c .before .number-of .ensures, c .match .keys5) (wrote-none (now (c .before .before .before .args .out)))
 
 returns-6 : tie.Need-returns-6
 unfolding textOf
-returns-6 c = rw (c .enum-told6 .given .1) (wrote-none (now (c .before .before .before .args .out)))
+returns-6 c = rw (← c .before .number-of .ensures, c .match .keys6) (wrote-none (now (c .before .before .before .args .out)))
 
 same-length-5 : tie.Need-same-length-5
 same-length-5 c = search needs
@@ -98,26 +99,22 @@ returns-7 : tie.Need-returns-7
 unfolding bytes
 returns-7 c =
     let s = c .before .before .before .before .before in
-    rw (causes-share (s .before .before .args .v) (s .match .keys7) .1) (c .before .before .write-text5 .ensures)
+    let r = s .match .rest in
+    rw (← s .before .number-of .ensures, left-over _ (r .0 .0 .0 .0 .0 .1) (r .0 .0 .0 .0 .1) (r .0 .0 .0 .1) (r .0 .0 .1) (r .0 .1) (r .1)) (c .before .before .write-text5 .ensures)
 
 pub write-verdict-spec : {M : Type 1} → statement M
 write-verdict-spec =
     tie.close
     (tie.spec
-    enum-told
+    number-of-requires
     slice-aggregate-write-text
     write-text-requires
-    enum-told-2
     slice-aggregate-write-text-2
     write-text-requires-2
-    enum-told-3
     slice-aggregate-write-text-3
     write-text-requires-3
-    enum-told-4
     slice-aggregate-write-text-4
     write-text-requires-4
-    enum-told-5
-    enum-told-6
     slice-aggregate-write-text-5
     write-text-requires-5
     same-length

@@ -1,4 +1,4 @@
--- `replies::write_head` meets its contract. Assumes nothing.
+-- `replies::write_head_question` meets its contract. Assumes nothing.
 use mathlib.Core.Path.{refl}
 use Prim.Native.Nat.{_≤_}
 use lib.ListN.{length}
@@ -6,12 +6,12 @@ use borrow.Author.Needs.{needs}
 use Rattle.text.specs.Text.{hexByte}
 use Rattle.replies.specs.Replies.{headText}
 use Rattle.replies.proofs.ReplyLaws.{short, head-within}
-use Rattle.replies.proofs.write_head.Statement.{statement}
-use Rattle.replies.proofs.write_head.Tie as tie
+use Rattle.replies.proofs.write_head_question.Statement.{statement}
+use Rattle.replies.proofs.write_head_question.Tie as tie
 
 -- what is answered is short
-within : (c : tie.Start) → length (headText (c .args .all) (c .args .flags) (c .args .q)) ≤ 17
-within c = head-within (c .args .all) (c .args .flags) (c .args .q)
+within : (c : tie.Start) → length (headText (c .args .h) (c .args .q)) ≤ 17
+within c = head-within (c .args .h) (c .args .q)
 
 enum-told : tie.Need-enum-told
 enum-told c = search needs
@@ -58,8 +58,8 @@ returns-3 c =
     let s = c .before .before .before .before in
     short (within (s .before .before .before)) (rw (s .enum-told3 .given .1) (c .before .before .write-error .ensures))
 
-pub write-head-spec : {M : Type 1} → statement M
-write-head-spec =
+pub write-head-question-spec : {M : Type 1} → statement M
+write-head-question-spec =
     tie.close
     (tie.spec
     enum-told

@@ -1,10 +1,10 @@
--- `replies::number_of` meets its contract. Assumes nothing.
+-- `drive::numbers::number_of` meets its contract. Assumes nothing.
 use mathlib.Core.Path.{sym}
 use borrow.Author.Needs.{needs}
 use Rattle.drive.specs.Numbers.{numberOf}
-use Rattle.replies.proofs.ReplyLaws.{causes-share}
-use Rattle.replies.proofs.number_of.Statement.{statement}
-use Rattle.replies.proofs.number_of.Tie as tie
+use Rattle.drive.proofs.NumberLaws.{causes-four}
+use Rattle.drive.proofs.numbers.number_of.Statement.{statement}
+use Rattle.drive.proofs.numbers.number_of.Tie as tie
 
 enum-told : tie.Need-enum-told
 enum-told c = search needs
@@ -49,7 +49,7 @@ unfolding numberOf
 returns-6 c = rw (c .enum-told6 .given .1)
 
 returns-7 : tie.Need-returns-7
-returns-7 c = sym (causes-share (c .before .args .v) (c .match .keys7) .0)
+returns-7 c = sym (causes-four (c .before .args .v) (c .match .keys7))
 
 pub number-of-spec : {M : Type 1} → statement M
 number-of-spec =
