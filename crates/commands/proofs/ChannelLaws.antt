@@ -23,11 +23,8 @@ named (StopAll flags) = 0
 named (ChangeSpeed x v) = x
 named (Set x s) = x
 named (Ask x q) = x
-named (Mode k) = 0
-named (AllReply k) = 0
 named (AskHead q) = 0
-named ClearErrors = 0
-named (ClearError e) = 0
+named (ForHead o) = 0
 
 pub named-channel : (o : Order) → orderMade o ≡ true → named o ≤ 15
 unfolding orderMade named
@@ -37,15 +34,12 @@ named-channel (StopAll flags) h = omega arith
 named-channel (ChangeSpeed x v) h = leb-true x 15 h
 named-channel (Set x s) h = leb-true x 15 (and-l (onBench x) (settingMade s) h)
 named-channel (Ask x q) h = leb-true x 15 h
-named-channel (Mode k) h = omega arith
-named-channel (AllReply k) h = omega arith
 named-channel (AskHead q) h = omega arith
-named-channel ClearErrors h = omega arith
-named-channel (ClearError e) h = omega arith
+named-channel (ForHead o) h = omega arith
 
 -- the orders that name no channel to judge: stops, reads and those of the head, by where they stand among the orders
 abbrev pub unjudged : List ℕ
-unjudged = 1 ∷ 2 ∷ 5 ∷ 6 ∷ 7 ∷ 8 ∷ 9 ∷ 10 ∷ []
+unjudged = 1 ∷ 2 ∷ 5 ∷ 6 ∷ 7 ∷ []
 
 -- They are never busy, and nothing of a motor refuses them.
 pub others-done : (t : List ℕ) (o : Order) → OneOf unjudged (tagOf T.the-type o) → cond (meetsBusy t o) Busy (judgeMotor t o) ≡ Done
@@ -56,8 +50,5 @@ others-done t (StopAll flags) h = refl
 others-done t (ChangeSpeed x v) h = absurd (miss unjudged 3 tt h)
 others-done t (Set x s) h = absurd (miss unjudged 4 tt h)
 others-done t (Ask x q) h = refl
-others-done t (Mode k) h = refl
-others-done t (AllReply k) h = refl
 others-done t (AskHead q) h = refl
-others-done t ClearErrors h = refl
-others-done t (ClearError e) h = refl
+others-done t (ForHead o) h = refl

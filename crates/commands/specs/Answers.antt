@@ -6,11 +6,11 @@ use Rattle.drive.specs.declared.Verdict.the-variants.{Done}
 use Rattle.line.specs.declared.Order.{Order}
 use Rattle.line.specs.declared.Order.the-variants.{Go, Stop, StopAll, ChangeSpeed, Set, Ask, AskHead, ForHead}
 use Rattle.replies.specs.Replies.{echo, questionText, headText}
-use Rattle.table.specs.Layout.{mode, allReply, errors, motorAt}
+use Rattle.table.specs.Layout.{headOf, motorAt}
 
 -- "Other commands, and numbers 1 to 4, write their text if all-reply is on after the command"
 abbrev pub told : List ℕ → Verdict → List ℕ
-told t v = echo (allReply t) v
+told t v = echo (headOf t .reply) v
 
 -- the answer to an accepted order, on the table after it: "A read's reply is always written"
 unfoldable pub answer : List ℕ → Order → List ℕ
@@ -19,9 +19,6 @@ answer t (Stop x e) = told t Done
 answer t (StopAll e) = told t Done
 answer t (ChangeSpeed x v) = told t Done
 answer t (Set x s) = told t Done
-answer t (Ask x q) = questionText (mode t) x (motorAt t x) q
-answer t (Mode k) = told t Done
-answer t (AllReply k) = told t Done
-answer t (AskHead q) = headText (allReply t) (errors t) q
-answer t ClearErrors = told t Done
-answer t (ClearError e) = told t Done
+answer t (Ask x q) = questionText (headOf t .mode) x (motorAt t x) q
+answer t (AskHead q) = headText (headOf t) q
+answer t (ForHead o) = told t Done

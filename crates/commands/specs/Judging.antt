@@ -11,7 +11,7 @@ use Rattle.line.specs.declared.Order.{Order}
 use Rattle.line.specs.declared.Order.the-variants.{Go, Stop, StopAll, ChangeSpeed, Set, Ask, AskHead, ForHead}
 use Rattle.orders.specs.Values.{needsRemote, valueInRange}
 use Rattle.orders.specs.Settings.{courseOf}
-use Rattle.table.specs.Layout.{mode, motorAt}
+use Rattle.table.specs.Layout.{headOf, motorAt}
 
 -- "a start, setting or speed selection (not SPC) of a driving channel"
 unfoldable pub meetsBusy : List ℕ → Order → Bool
@@ -21,11 +21,8 @@ meetsBusy t (StopAll e) = false
 meetsBusy t (ChangeSpeed x v) = false
 meetsBusy t (Set x s) = busy (motorAt t x)
 meetsBusy t (Ask x q) = false
-meetsBusy t (Mode k) = false
-meetsBusy t (AllReply k) = false
 meetsBusy t (AskHead q) = false
-meetsBusy t ClearErrors = false
-meetsBusy t (ClearError e) = false
+meetsBusy t (ForHead h) = false
 
 -- what is judged after busy: "target out of range .., the other causes of 4", which lie in the motor
 unfoldable pub judgeMotor : List ℕ → Order → Verdict
@@ -35,16 +32,13 @@ judgeMotor t (StopAll e) = Done
 judgeMotor t (ChangeSpeed x v) = judgeSpeedChange (motorAt t x)
 judgeMotor t (Set x s) = Done
 judgeMotor t (Ask x q) = Done
-judgeMotor t (Mode k) = Done
-judgeMotor t (AllReply k) = Done
 judgeMotor t (AskHead q) = Done
-judgeMotor t ClearErrors = Done
-judgeMotor t (ClearError e) = Done
+judgeMotor t (ForHead h) = Done
 
 -- "Order: .. local mode, value, busy, target out of range .., the other causes of 4."
 unfoldable pub judge : List ℕ → Order → Verdict
 judge t o =
-    cond (needsRemote o && eqb (mode t) 0) LocalMode
+    cond (needsRemote o && eqb (headOf t .mode) 0) LocalMode
     (cond (not (valueInRange o)) OutOfRange
     (cond (meetsBusy t o) Busy
     (judgeMotor t o)))

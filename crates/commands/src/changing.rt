@@ -4,6 +4,7 @@ use crate::flags::clear_flag;
 use drive::change_speed;
 use drive::start;
 use drive::stop;
+use line::HeadOrder;
 use line::Order;
 use line::Setting;
 use line::Start;
@@ -12,9 +13,12 @@ use orders::settings::course_of;
 use orders::settings::speed_written;
 use orders::settings::with_setting;
 use record::Motor;
-use table::head::set_all_reply;
-use table::head::set_errors;
-use table::head::set_mode;
+use table::head::Head;
+use table::head::read_head;
+use table::head::with_errors;
+use table::head::with_mode;
+use table::head::with_reply;
+use table::head::write_head;
 use table::motor_at;
 use table::put_drive;
 use table::put_motor;
@@ -25,11 +29,11 @@ ghost use lib.ListN.{length};
 ghost use Rattle.motor.specs.Sound.{isSpeed, soundRecord};
 ghost use Rattle.drive.specs.Drives.{started, stopped, speedChanged};
 ghost use Rattle.line.specs.Made.{orderMade};
-ghost use Rattle.orders.specs.Values.{startInRange, settingInRange, valueInRange};
+ghost use Rattle.orders.specs.Values.{startInRange, settingInRange, headValueInRange, valueInRange};
 ghost use Rattle.orders.specs.Settings.{courseOf, withSetting};
-ghost use Rattle.table.specs.Layout.{tableSize, recordAt, motorAt, withMotor, withMotors};
+ghost use Rattle.table.specs.Layout.{tableSize, headOf, withHead, recordAt, motorAt, withMotor, withMotors};
 ghost use Rattle.table.specs.Sound.{soundTable};
-ghost use Rattle.commands.specs.Changing.{changed};
+ghost use Rattle.commands.specs.Changing.{headChanged, changed};
 
 // Starts a channel.
 fn make_start(t: &mut [u8], x: u8, s: Start)
@@ -81,6 +85,28 @@ fn make_setting(t: &mut [u8], x: u8, s: Setting)
     put_motor(t, x, with_setting(m, s));
 }
 
+// The head after an accepted order of it.
+fn head_changed(h: Head, o: HeadOrder) -> Head
+    requires { ⌜ headValueInRange o ≡ true ⌝ }
+    ensures { λ r. ⌜ r ≡ headChanged h o ⌝ }
+{
+    match o {
+        HeadOrder::Mode(k) => with_mode(h, k),
+        HeadOrder::AllReply(k) => with_reply(h, k),
+        HeadOrder::ClearErrors => with_errors(h, 0),
+        HeadOrder::ClearError(e) => clear_flag(h, e),
+    }
+}
+
+// Changes the head.
+fn change_head(t: &mut [u8], o: HeadOrder)
+    requires { ⌜ (length (now t) ≡ tableSize) × (headValueInRange o ≡ true) ⌝ }
+    ensures { λ _. ⌜ now (t .exit) ≡ withHead (now (t .entry)) (headChanged (headOf (now (t .entry))) o) ⌝ }
+{
+    let h = read_head(t);
+    write_head(t, head_changed(h, o));
+}
+
 // What an accepted order changes in a sound table. Reads change nothing.
 pub fn change(t: &mut [u8], o: Order)
     requires { ⌜ (soundTable (now t) ≡ true) × (orderMade o ≡ true) × (valueInRange o ≡ true) ⌝ }
@@ -93,10 +119,7 @@ pub fn change(t: &mut [u8], o: Order)
         Order::ChangeSpeed(x, v) => make_speed(t, x, v),
         Order::Set(x, s) => make_setting(t, x, s),
         Order::Ask(_, _) => {}
-        Order::Mode(k) => set_mode(t, k),
-        Order::AllReply(k) => set_all_reply(t, k),
         Order::AskHead(_) => {}
-        Order::ClearErrors => set_errors(t, 0),
-        Order::ClearError(e) => clear_flag(t, e),
+        Order::ForHead(h) => change_head(t, h),
     }
 }

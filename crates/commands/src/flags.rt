@@ -1,16 +1,19 @@
-// The error flags: one is set by each refusal from 1 to 4, and ERRCe clears one.
+// The error flags: one is set by each refusal, and ERRCe clears one.
 
 use digits::is_set;
 use drive::Verdict;
-use replies::number_of;
-use table::head::errors_of;
-use table::head::set_errors;
+use drive::numbers::flag_bit;
+use drive::numbers::number_of;
+use table::head::Head;
+use table::head::read_head;
+use table::head::with_errors;
+use table::head::write_head;
 ghost use mathlib.Core.Path.{_≡_};
 ghost use Prim.Native.Nat.{_^_, _≤_};
 ghost use lib.ListN.{length};
 ghost use Rattle.digits.specs.Words.{withBit, withoutBit};
 ghost use Rattle.drive.specs.Numbers.{numberOf};
-ghost use Rattle.table.specs.Layout.{tableSize, errors, withErrors};
+ghost use Rattle.table.specs.Layout.{tableSize, headOf, withErrors};
 ghost use Rattle.commands.specs.Changing.{flagged};
 
 // The number whose only bit is bit k.
@@ -37,19 +40,18 @@ fn without_bit(k: u8, n: u8) -> u8
 
 // Sets the flag of a refusal.
 pub fn set_flag(t: &mut [u8], v: Verdict)
-    requires { ⌜ (length (now t) ≡ tableSize) × (errors (now t) ≤ 15) × (1 ≤ numberOf v) × (numberOf v ≤ 4) ⌝ }
-    ensures { λ _. ⌜ now (t .exit) ≡ flagged (now (t .entry)) v ⌝ }
+    requires { ⌜ (length (now t) ≡ tableSize) × (headOf (now t) .errors ≤ 15) ⌝ }
+    ensures { λ _. ⌜ now (t .exit) ≡ flagged (now (t .entry)) (numberOf v) ⌝ }
 {
-    let k = (number_of(v) - 1) as u8;
-    let flags = with_bit(k, errors_of(t));
-    set_errors(t, flags);
+    let h = read_head(t);
+    let flags = with_bit(flag_bit(number_of(v)), h.errors);
+    write_head(t, with_errors(h, flags));
 }
 
-// Clears flag e.
-pub fn clear_flag(t: &mut [u8], e: u64)
-    requires { ⌜ (length (now t) ≡ tableSize) × (e ≤ 3) ⌝ }
-    ensures { λ _. ⌜ now (t .exit) ≡ withErrors (now (t .entry)) (withoutBit e (errors (now (t .entry)))) ⌝ }
+// The head with flag e clear.
+pub fn clear_flag(h: Head, e: u64) -> Head
+    requires { ⌜ e ≤ 3 ⌝ }
+    ensures { λ r. ⌜ r ≡ withErrors h (withoutBit e (h .errors)) ⌝ }
 {
-    let flags = without_bit(e as u8, errors_of(t));
-    set_errors(t, flags);
+    with_errors(h, without_bit(e as u8, h.errors))
 }

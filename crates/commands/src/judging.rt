@@ -10,7 +10,7 @@ use orders::settings::course_of;
 use orders::values::needs_remote;
 use orders::values::value_in_range;
 use record::Motor;
-use table::head::mode_of;
+use table::head::read_head;
 use table::motor_at;
 ghost use mathlib.Core.Path.{_≡_};
 ghost use mathlib.Core.Bool.{true, cond};
@@ -21,7 +21,7 @@ ghost use Rattle.drive.specs.Drives.{judgeStart};
 ghost use Rattle.line.specs.Made.{orderMade};
 ghost use Rattle.orders.specs.Values.{startInRange, valueInRange};
 ghost use Rattle.orders.specs.Settings.{courseOf};
-ghost use Rattle.table.specs.Layout.{tableSize, mode};
+ghost use Rattle.table.specs.Layout.{tableSize};
 ghost use Rattle.commands.specs.Judging.{meetsBusy, judgeMotor, judge};
 
 // A start: busy on a driving channel, else as the motor allows.
@@ -65,7 +65,8 @@ pub fn judge_order(t: &[u8], o: Order) -> Verdict
     requires { ⌜ (length (now t) ≡ tableSize) × (orderMade o ≡ true) ⌝ }
     ensures { λ r. ⌜ r ≡ judge (now (t .entry)) o ⌝ }
 {
-    if needs_remote(o) & (mode_of(t) == 0) {
+    let head = read_head(t);
+    if needs_remote(o) & (head.mode == 0) {
         return Verdict::LocalMode;
     }
     if value_in_range(o) {

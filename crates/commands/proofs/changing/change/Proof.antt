@@ -1,5 +1,4 @@
 -- `commands::changing::change` meets its contract. Assumes nothing.
-use borrow.Author.Tests.{leb-true}
 use Rattle.commands.proofs.ChannelLaws.{named, named-channel}
 use Rattle.orders.specs.Values.{valueInRange}
 use Rattle.commands.specs.Changing.{changed}
@@ -48,33 +47,15 @@ make-setting-requires c κs = (sound-length _ (c .before .before .before .before
 enum-told : tie.Need-enum-told
 enum-told c = search needs
 
-enum-known-o-6 : tie.Need-enum-known-o-6
-enum-known-o-6 c = search needs
-
-set-mode-requires : tie.Need-set-mode-requires
-set-mode-requires c κs = sound-length _ (c .before .before .before .before .before .pre .0)
-
-enum-known-o-7 : tie.Need-enum-known-o-7
-enum-known-o-7 c = search needs
-
-set-all-reply-requires : tie.Need-set-all-reply-requires
-set-all-reply-requires c κs = sound-length _ (c .before .before .before .before .before .pre .0)
-
 enum-told-2 : tie.Need-enum-told-2
 enum-told-2 c = search needs
 
-enum-told-3 : tie.Need-enum-told-3
-enum-told-3 c = search needs
+enum-known-o-6 : tie.Need-enum-known-o-6
+enum-known-o-6 c = search needs
 
-set-errors-requires : tie.Need-set-errors-requires
-set-errors-requires c κs = sound-length _ (c .before .before .before .before .pre .0)
-
-enum-known-o-8 : tie.Need-enum-known-o-8
-enum-known-o-8 c = search needs
-
-clear-flag-requires : tie.Need-clear-flag-requires
+change-head-requires : tie.Need-change-head-requires
 unfolding valueInRange
-clear-flag-requires c κs = (sound-length _ (c .before .before .before .before .before .pre .0), leb-true _ 3 (rw (c .before .before .o8 .given .1) at (c .before .before .before .before .before .pre .2)))
+change-head-requires c κs = (sound-length _ (c .before .before .before .before .before .pre .0), rw (c .before .before .o6 .given .1) at (c .before .before .before .before .before .pre .2))
 
 same-length : tie.Need-same-length
 same-length c = search needs
@@ -115,37 +96,16 @@ returns-6 : tie.Need-returns-6
 unfolding changed
 returns-6 c = rw (c .enum-told .given .1)
 
+returns-7 : tie.Need-returns-7
+unfolding changed
+returns-7 c = rw (c .enum-told2 .given .1)
+
 same-length-6 : tie.Need-same-length-6
 same-length-6 c = search needs
 
-returns-7 : tie.Need-returns-7
-unfolding changed
-returns-7 c = rw (c .before .before .before .before .before .o6 .given .1, c .before .before .set-mode .ensures)
-
-same-length-7 : tie.Need-same-length-7
-same-length-7 c = search needs
-
 returns-8 : tie.Need-returns-8
 unfolding changed
-returns-8 c = rw (c .before .before .before .before .before .o7 .given .1, c .before .before .set-all-reply .ensures)
-
-returns-9 : tie.Need-returns-9
-unfolding changed
-returns-9 c = rw (c .enum-told2 .given .1)
-
-same-length-8 : tie.Need-same-length-8
-same-length-8 c = search needs
-
-returns-10 : tie.Need-returns-10
-unfolding changed
-returns-10 c = rw (c .before .before .before .before .enum-told3 .given .1, c .before .before .set-errors .ensures)
-
-same-length-9 : tie.Need-same-length-9
-same-length-9 c = search needs
-
-returns-11 : tie.Need-returns-11
-unfolding changed
-returns-11 c = rw (c .before .before .before .before .before .o8 .given .1, c .before .before .clear-flag .ensures)
+returns-8 c = rw (c .before .before .before .before .before .o6 .given .1, c .before .before .change-head .ensures)
 
 pub change-spec : {M : Type 1} → statement M
 change-spec =
@@ -162,15 +122,9 @@ change-spec =
     enum-known-o-5
     make-setting-requires
     enum-told
-    enum-known-o-6
-    set-mode-requires
-    enum-known-o-7
-    set-all-reply-requires
     enum-told-2
-    enum-told-3
-    set-errors-requires
-    enum-known-o-8
-    clear-flag-requires
+    enum-known-o-6
+    change-head-requires
     same-length
     returns
     same-length-2
@@ -182,12 +136,6 @@ change-spec =
     same-length-5
     returns-5
     returns-6
-    same-length-6
     returns-7
-    same-length-7
-    returns-8
-    returns-9
-    same-length-8
-    returns-10
-    same-length-9
-    returns-11)
+    same-length-6
+    returns-8)
