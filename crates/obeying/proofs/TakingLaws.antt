@@ -20,7 +20,7 @@ setup-sound m s = sound-parts m s .range .setup
 
 -- the orders that ask nothing, by where they stand among the orders
 abbrev pub unasked : List ℕ
-unasked = 0 ∷ 1 ∷ 2 ∷ 3 ∷ 4 ∷ 6 ∷ 7 ∷ 9 ∷ 10 ∷ []
+unasked = 0 ∷ 1 ∷ 2 ∷ 3 ∷ 4 ∷ 7 ∷ []
 
 -- They are answered OK, or nothing.
 pub unasked-told : (t : List ℕ) (o : Order) → OneOf unasked (tagOf T.the-type o) → answer t o ≡ told t Done
@@ -31,8 +31,5 @@ unasked-told t (StopAll flags) h = refl
 unasked-told t (ChangeSpeed x v) h = refl
 unasked-told t (Set x s) h = refl
 unasked-told t (Ask x q) h = absurd (miss unasked 5 tt h)
-unasked-told t (Mode k) h = refl
-unasked-told t (AllReply k) h = refl
-unasked-told t (AskHead q) h = absurd (miss unasked 8 tt h)
-unasked-told t ClearErrors h = refl
-unasked-told t (ClearError e) h = refl
+unasked-told t (AskHead q) h = absurd (miss unasked 6 tt h)
+unasked-told t (ForHead o) h = refl

@@ -30,9 +30,11 @@ pub record CommandAfter : Type 0 where
 abbrev pub replied : Verdict → List ℕ → List ℕ → List ℕ → CommandAfter
 replied v t text reply = record { result = numberOf v + 256 * length text; table = t; reply = put reply 0 text }
 
--- a line that is refused with a number from 1 to 4
+-- a line that is refused: its flag is set, and its text made on the table after that
 unfoldable pub refused : List ℕ → Verdict → List ℕ → CommandAfter
-refused t v reply = replied v (flagged t v) (told (flagged t v) v) reply
+refused t v reply =
+    let u = flagged t (numberOf v) in
+    replied v u (told u v) reply
 
 -- an order that is accepted: the answer is made on the table after it
 unfoldable pub obeyed : List ℕ → Order → List ℕ → CommandAfter

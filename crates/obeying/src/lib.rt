@@ -5,17 +5,15 @@ use commands::changing::change;
 use commands::flags::set_flag;
 use commands::judging::judge_order;
 use drive::Verdict;
+use drive::numbers::number_of;
 use line::HeadQuestion;
 use line::Order;
 use line::Parsed;
 use line::Question;
-use replies::number_of;
 use replies::write_echo;
-use replies::write_head;
+use replies::write_head_question;
 use replies::write_question;
-use table::head::all_reply_of;
-use table::head::errors_of;
-use table::head::mode_of;
+use table::head::read_head;
 use table::motor_at;
 ghost use mathlib.Core.Path.{_≡_};
 ghost use mathlib.Core.Bool.{true};
@@ -40,13 +38,14 @@ fn result_of(v: Verdict, count: usize) -> u32
     number_of(v) + 256 * (count as u32)
 }
 
-// Refuses a line with a number from 1 to 4: its flag is set, and its text written if all-reply is on.
+// Refuses a line: its flag is set, and its text written if all-reply is on.
 fn refuse(t: &mut [u8], v: Verdict, reply: &mut [u8]) -> u32
-    requires { ⌜ (soundTable (now t) ≡ true) × (32 ≤ length (now reply)) × (1 ≤ numberOf v) × (numberOf v ≤ 4) ⌝ }
+    requires { ⌜ (soundTable (now t) ≡ true) × (32 ≤ length (now reply)) ⌝ }
     ensures { λ r. ⌜ record { result = r; table = now (t .exit); reply = now (reply .exit) } ≡ refused (now (t .entry)) v (now (reply .entry)) ⌝ }
 {
     set_flag(t, v);
-    let count = write_echo(reply, all_reply_of(t), v);
+    let h = read_head(t);
+    let count = write_echo(reply, h.reply, v);
     result_of(v, count)
 }
 
@@ -55,7 +54,8 @@ fn tell_channel(t: &[u8], x: u8, q: Question, reply: &mut [u8]) -> u32
     requires { ⌜ (soundTable (now t) ≡ true) × (32 ≤ length (now reply)) × (x ≤ 15) ⌝ }
     ensures { λ r. ⌜ record { result = r; table = now (t .entry); reply = now (reply .exit) } ≡ obeyed (now (t .entry)) (Ask x q) (now (reply .entry)) ⌝ }
 {
-    let count = write_question(reply, mode_of(t), x, motor_at(t, x), q);
+    let h = read_head(t);
+    let count = write_question(reply, h.mode, x, motor_at(t, x), q);
     result_of(Verdict::Done, count)
 }
 
@@ -64,7 +64,7 @@ fn tell_head(t: &[u8], q: HeadQuestion, reply: &mut [u8]) -> u32
     requires { ⌜ (soundTable (now t) ≡ true) × (32 ≤ length (now reply)) ⌝ }
     ensures { λ r. ⌜ record { result = r; table = now (t .entry); reply = now (reply .exit) } ≡ obeyed (now (t .entry)) (AskHead q) (now (reply .entry)) ⌝ }
 {
-    let count = write_head(reply, all_reply_of(t), errors_of(t), q);
+    let count = write_head_question(reply, read_head(t), q);
     result_of(Verdict::Done, count)
 }
 
@@ -74,7 +74,8 @@ fn carry_out(t: &mut [u8], o: Order, reply: &mut [u8]) -> u32
     ensures { λ r. ⌜ record { result = r; table = now (t .exit); reply = now (reply .exit) } ≡ replied Done (changed (now (t .entry)) o) (told (changed (now (t .entry)) o) Done) (now (reply .entry)) ⌝ }
 {
     change(t, o);
-    let count = write_echo(reply, all_reply_of(t), Verdict::Done);
+    let h = read_head(t);
+    let count = write_echo(reply, h.reply, Verdict::Done);
     result_of(Verdict::Done, count)
 }
 

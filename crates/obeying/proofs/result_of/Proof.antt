@@ -1,6 +1,6 @@
 -- `obeying::result_of` meets its contract. Assumes nothing.
 use native.Mathlib.Omega.{arith}
-use Rattle.obeying.proofs.NumberLaws.{number-most}
+use Rattle.drive.proofs.NumberLaws.{numbered}
 use borrow.Author.Needs.{needs}
 use Rattle.obeying.proofs.result_of.Statement.{statement}
 use Rattle.obeying.proofs.result_of.Tie as tie
@@ -15,7 +15,7 @@ mul-result : tie.Need-mul-result
 mul-result c = search needs
 
 add-result : tie.Need-add-result
-add-result c = omega (arith, c .number-of .ensures, number-most (c .before .args .v))
+add-result c = omega (arith, c .number-of .ensures, numbered (c .before .args .v) .small)
 
 returns : tie.Need-returns
 returns c = search needs

@@ -1,7 +1,5 @@
 -- `obeying::take_line` meets its contract. Assumes nothing.
-use native.Mathlib.Omega.{arith}
 use Rattle.obeying.specs.Taking.{taken}
-use Rattle.drive.specs.Numbers.{numberOf}
 use borrow.Author.Needs.{needs}
 use Rattle.obeying.proofs.take_line.Statement.{statement}
 use Rattle.obeying.proofs.take_line.Tie as tie
@@ -16,8 +14,7 @@ enum-told : tie.Need-enum-told
 enum-told c = search needs
 
 refuse-requires : tie.Need-refuse-requires
-unfolding numberOf
-refuse-requires c κs = let a = c .before .before .before .before .before .before in (a .pre .0, a .pre .1, omega arith, omega arith)
+refuse-requires c κs = let a = c .before .before .before .before .before .before in (a .pre .0, a .pre .1)
 
 same-length : tie.Need-same-length
 same-length c = search needs

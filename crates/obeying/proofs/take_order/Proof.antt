@@ -1,9 +1,7 @@
 -- `obeying::take_order` meets its contract. Assumes nothing.
-use native.Mathlib.Omega.{arith}
 use mathlib.Core.Path.{_≡_, sym, _∙_}
-use Prim.Native.Nat.{_≤_}
 use borrow.Author.Tests.{ne-eqb}
-use Rattle.obeying.proofs.NumberLaws.{judged-value, judge-number}
+use Rattle.obeying.proofs.NumberLaws.{judged-value}
 use Rattle.obeying.specs.Taking.{taken}
 use Rattle.drive.specs.Numbers.{numberOf}
 use Rattle.table.proofs.TableLaws.{sound-length}
@@ -24,10 +22,7 @@ obey-requires c κs =
     (a .pre .0, a .pre .1, a .pre .2, judged-value (a .args .t .now) (a .args .o) (rw (← c .before .before .before .before .judge-order .ensures) none))
 
 refuse-requires : tie.Need-refuse-requires
-refuse-requires c κs =
-    let a = c .before .before .before .before .before .before .before .before in
-    let most : numberOf (c .before .before .before .before .judge-order .result) ≤ 4 = rw (c .before .before .before .before .judge-order .ensures) (judge-number _ (a .args .o)) in
-    (a .pre .0, a .pre .1, omega (arith, c .before .before .before .number-of .ensures, c .before .before .if1 .left), most)
+refuse-requires c κs = let a = c .before .before .before .before .before .before .before .before in (a .pre .0, a .pre .1)
 
 same-length : tie.Need-same-length
 same-length c = search needs

@@ -8,8 +8,8 @@ use borrow.Author.Needs.{needs}
 use Rattle.obeying.proofs.tell_channel.Statement.{statement}
 use Rattle.obeying.proofs.tell_channel.Tie as tie
 
-mode-of-requires : tie.Need-mode-of-requires
-mode-of-requires c κs = sound-length _ (c .before .before .before .pre .0)
+read-head-requires : tie.Need-read-head-requires
+read-head-requires c κs = sound-length _ (c .before .before .pre .0)
 
 motor-at-requires : tie.Need-motor-at-requires
 motor-at-requires c κs = (sound-length _ (c .before .before .before .before .pre .0), c .before .before .before .before .pre .2)
@@ -25,13 +25,13 @@ same-length c = search needs
 
 returns : tie.Need-returns
 unfolding obeyed changed answer
-returns c = rw (c .result-of .ensures, c .before .before .before .write-question .ensures .0 .count, c .before .before .before .write-question .ensures .0 .buffer, c .before .before .before .before .motor-at .ensures, c .before .before .before .before .before .mode-of .ensures)
+returns c = rw (c .result-of .ensures, c .before .before .before .write-question .ensures .0 .count, c .before .before .before .write-question .ensures .0 .buffer, c .before .before .before .before .motor-at .ensures, c .before .before .before .before .before .before .read-head .ensures)
 
 pub tell-channel-spec : {M : Type 1} → statement M
 tell-channel-spec =
     tie.close
     (tie.spec
-    mode-of-requires
+    read-head-requires
     motor-at-requires
     write-question-requires
     result-of-requires

@@ -7,14 +7,11 @@ use borrow.Author.Needs.{needs}
 use Rattle.obeying.proofs.tell_head.Statement.{statement}
 use Rattle.obeying.proofs.tell_head.Tie as tie
 
-all-reply-of-requires : tie.Need-all-reply-of-requires
-all-reply-of-requires c κs = sound-length _ (c .before .before .before .pre .0)
+read-head-requires : tie.Need-read-head-requires
+read-head-requires c κs = sound-length _ (c .before .before .before .pre .0)
 
-errors-of-requires : tie.Need-errors-of-requires
-errors-of-requires c κs = sound-length _ (c .before .before .before .before .pre .0)
-
-write-head-requires : tie.Need-write-head-requires
-write-head-requires c κs = search needs
+write-head-question-requires : tie.Need-write-head-question-requires
+write-head-question-requires c κs = search needs
 
 result-of-requires : tie.Need-result-of-requires
 result-of-requires c κs = search needs
@@ -24,15 +21,14 @@ same-length c = search needs
 
 returns : tie.Need-returns
 unfolding obeyed changed answer
-returns c = rw (c .result-of .ensures, c .before .before .before .write-head .ensures .0 .count, c .before .before .before .write-head .ensures .0 .buffer, c .before .before .before .before .errors-of .ensures, c .before .before .before .before .before .all-reply-of .ensures)
+returns c = rw (c .result-of .ensures, c .before .before .before .write-head-question .ensures .0 .count, c .before .before .before .write-head-question .ensures .0 .buffer, c .before .before .before .before .read-head .ensures)
 
 pub tell-head-spec : {M : Type 1} → statement M
 tell-head-spec =
     tie.close
     (tie.spec
-    all-reply-of-requires
-    errors-of-requires
-    write-head-requires
+    read-head-requires
+    write-head-question-requires
     result-of-requires
     same-length
     returns)
