@@ -1,13 +1,14 @@
 -- The numbers of the four calls, for all inputs: "5 and 6 change nothing anywhere; fresh gives only 0 or 5." The sizes are
--- judged first, then the table; with both right a reading and a tick give 0, and a command a number from 0 to 4.
+-- judged first, then the table; with both right a reading and a tick give 0, and a command 0 or the number of
+-- a refusal.
 use mathlib.Core.Path.{_≡_, refl}
 use mathlib.Core.List.{List}
-use mathlib.Core.Bool.{Bool, true, false, _&&_}
+use mathlib.Core.Bool.{Bool, true, false, _&&_, _||_}
 use mathlib.Core.Logic.{_⊎_, inl, inr}
-use Prim.Native.Nat.{ℕ, _%_, _≤_}
+use Prim.Native.Nat.{ℕ, _%_}
 use lib.ListN.{length}
 use lib.Dec.{eqb, leb}
-use Rattle.drive.specs.Numbers.{numberOf}
+use Rattle.drive.specs.Numbers.{numberOf, isRefusal}
 use Rattle.line.specs.Forms.{orderOf}
 use Rattle.table.specs.Layout.{tableSize, freshTable}
 use Rattle.table.specs.Sound.{soundTable}
@@ -77,6 +78,6 @@ tick-accepted t pulses e u = rw (e, u)
 
 -- and a command
 pub command-accepted : (t line reply : List ℕ) → (eqb (length t) tableSize && leb 32 (length reply)) ≡ true → soundTable t ≡ true
-    → commandCall t line reply .result % 256 ≤ 4
+    → let n = commandCall t line reply .result % 256 in (eqb n 0 || isRefusal n) ≡ true
 unfolding commandCall numberOf
 command-accepted t line reply e u = rw (e, u) (taken-number t (orderOf line) reply)
