@@ -18,7 +18,7 @@ ghost use lib.ListN.{length, replicate};
 ghost use Rattle.digits.specs.Bytes.{put};
 ghost use Rattle.record.specs.Record.{placeAt, limitsOf, speedsOf, wiringOf, setupOf, driveOf, motorOf};
 ghost use Rattle.record.specs.Record.{placeBytes, limitBytes, speedBytes, wiringBytes, setupBytes, settingBytes};
-ghost use Rattle.record.specs.Record.{driveBytes, recordOf};
+ghost use Rattle.record.specs.Record.{driveBytes, recordOf, standing};
 ghost use Rattle.record.specs.Progress.{flagsAndDrive, progressed};
 
 // The digital limits.
@@ -68,6 +68,19 @@ pub struct Motor {
     pub setup: Setup,
     pub ended: u8,
     pub drive: Drive,
+}
+
+// The drive of a stopped motor.
+pub fn no_drive() -> Drive
+    ensures { λ r. ⌜ r ≡ standing ⌝ }
+{
+    Drive {
+        going: 0,
+        kind: 0,
+        fraction: 0,
+        speed: 0,
+        target: ORIGIN,
+    }
 }
 
 // The place of the signed number in the four bytes from an offset on.
@@ -270,16 +283,9 @@ pub fn write_progress(b: &mut [u8], m: Motor)
     requires { ⌜ length (now b) ≡ 64 ⌝ }
     ensures { λ r. ⌜ now (b .exit) ≡ progressed (now (b .entry)) m ⌝ }
 {
-    let none = Drive {
-        going: 0,
-        kind: 0,
-        fraction: 0,
-        speed: 0,
-        target: ORIGIN,
-    };
     put_place(b, 0, m.place);
     if m.drive.going == 0 {
-        write_drive(b, m.ended, none);
+        write_drive(b, m.ended, no_drive());
     } else {
         put_short(b, 34, m.drive.fraction);
     }

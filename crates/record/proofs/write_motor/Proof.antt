@@ -3,11 +3,10 @@ use borrow.Author.Needs.{needs}
 use native.Mathlib.Omega.{arith}
 use mathlib.Core.Path.{_∙_}
 use mathlib.Core.List.{[], _∷_}
-use lib.ListN.{replicate}
 use Rattle.digits.specs.Bytes.{joined}
 use Rattle.digits.specs.Words.{wordBytes}
 use Rattle.digits.proofs.PutLaws.{lay-put, put-whole}
-use Rattle.record.specs.Record.{settingBytes, driveBytes, recordOf}
+use Rattle.record.specs.Record.{settingBytes, driveBytes, restBytes, recordOf}
 use Rattle.record.proofs.write_motor.Statement.{statement}
 use Rattle.record.proofs.write_motor.Tie as tie
 
@@ -31,7 +30,7 @@ unfolding joined wordBytes settingBytes recordOf
 returns c =
     let a = c .before .before .before .before .before .before .before .before .before .before .before .before .before .before .before .before .before .before .args in
     rw (c .before .before .put-zeros .ensures, c .before .before .before .before .before .before .put-drive .ensures, c .before .before .before .before .before .before .before .before .before .before .put-byte .ensures, c .before .before .before .before .before .before .before .before .before .before .before .before .before .before .put-settings .ensures)
-    (lay-put (settingBytes (a .m) ∷ (a .m .ended ∷ []) ∷ driveBytes (a .m .drive) ∷ replicate 20 0 ∷ []) (a .b .now) 0 (omega arith)
+    (lay-put (settingBytes (a .m) ∷ (a .m .ended ∷ []) ∷ driveBytes (a .m .drive) ∷ restBytes (a .m) ∷ []) (a .b .now) 0 (omega arith)
     ∙ put-whole (a .b .now) (recordOf (a .m)) (omega arith))
 
 pub write-motor-spec : {M : Type 1} → statement M
