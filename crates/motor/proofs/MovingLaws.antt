@@ -1,4 +1,4 @@
--- Which motors move. Nothing else opens `moving`. Assumes nothing.
+-- Which motors move. Nothing above opens `moving` but what computes. Assumes nothing.
 use mathlib.Core.Path.{_≡_, refl}
 use mathlib.Core.Bool.{true, false}
 use Prim.Native.Nat.{ℕ}

@@ -297,7 +297,7 @@ fn motor_sound(b: &[u8]) -> bool
     }
 }
 
-// Whether 64 bytes are a sound record. The rest is the cheaper test.
+// Whether 64 bytes are a sound record. The rest is the cheaper test, and so the first.
 fn sound_bytes(b: &[u8]) -> bool
     requires { ⌜ length (now b) ≡ 64 ⌝ }
     ensures { λ r. ⌜ r ≡ soundRecord (now (b .entry)) ⌝ }

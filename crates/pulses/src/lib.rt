@@ -147,8 +147,7 @@ fn tick_moving(going: u8, m: Motor) -> Ticked
     Ticked { motor, pulses }
 }
 
-// One tick of one motor: the motor after it and the pulses that it was given; one that does
-// not move stays and gets none.
+// One tick of one motor: the motor after it and the pulses that it was given; one that does not move stays and gets none.
 pub fn tick(m: Motor) -> Ticked
     ensures { λ r. ⌜ r ≡ tickMotor m ⌝ }
 {
