@@ -16,7 +16,7 @@ use Rattle.digits.specs.Places.{origin, cw}
 use Rattle.text.specs.Text.{bytes, same}
 use Rattle.record.specs.declared.Wiring.{Wiring}
 use Rattle.record.specs.declared.Motor.{Motor}
-use Rattle.record.specs.Record.{withWiring, withDrive}
+use Rattle.record.specs.Record.{withWiring, withDrive, withFraction}
 use Rattle.motor.specs.Sound.{busy}
 use Rattle.drive.specs.Drives.{stopped, contacted}
 use Rattle.line.specs.declared.Start.the-variants.{Scan}
@@ -208,17 +208,13 @@ invents-lengths-refused r =
     absurd (omega (arith, fact))
 
 -- a driving motor with another fraction
-abbrev pub withFraction : ℕ → Motor → Motor
-withFraction n m =
-    cond (busy m)
-    (withDrive m (m .ended)
-    (record { going = m .drive .going; kind = m .drive .kind; fraction = n; speed = m .drive .speed; target = m .drive .target }))
-    m
+abbrev pub carrying : ℕ → Motor → Motor
+carrying n m = cond (busy m) (withDrive m (m .ended) (withFraction (m .drive) n)) m
 
 -- "Rounding the pulses of each tick: 800 pps becomes 0 or 1000." A tick that begins with half a pulse gives the nearest number of
 -- pulses, and one that begins with none the lower one, whatever the tick before it left.
 abbrev pub rounds : ℕ → Library
-rounds n = withTick (λ t p. tickCall (withMotors t (withFraction n)) p)
+rounds n = withTick (λ t p. tickCall (withMotors t (carrying n)) p)
 
 pub rounds-to-nearest-refused : AllDemand3 (rounds 500) → ⊥
 unfolding computing-laws
@@ -249,7 +245,7 @@ keepsFraction =
     record {
       result = a .result;
       table = cond (isStart (deed 0 t (command line reply)) && eqb (motorAt t 0 .ended) ssend)
-          (withMotor (a .table) 0 (withFraction 800 (motorAt (a .table) 0)))
+          (withMotor (a .table) 0 (carrying 800 (motorAt (a .table) 0)))
           (a .table);
       reply = a .reply;
     })

@@ -9,7 +9,7 @@ use Rattle.drive.specs.declared.Course.{Course}
 use Rattle.drive.specs.declared.Course.the-variants.{Stay, Beyond, To, Along}
 use Rattle.drive.specs.declared.Verdict.{Verdict}
 use Rattle.drive.specs.declared.Verdict.the-variants.{Done, OutOfRange, Disabled, SwitchAhead, NoRoom, NotDriving}
-use Rattle.record.specs.Record.{withWiring, withDrive, standing}
+use Rattle.record.specs.Record.{withWiring, withDrive, withSpeedInForce, standing}
 use Rattle.motor.specs.Switches.{blocked, room}
 use Rattle.motor.specs.Sound.{busy}
 
@@ -86,9 +86,7 @@ judgeSpeedChange m = cond (busy m) Done NotDriving
 
 -- "SPC replaces the speed in force and keeps the fraction."
 unfoldable pub speedChanged : Motor → ℕ → Motor
-speedChanged m v =
-    withDrive m (m .ended)
-    (record { going = m .drive .going; kind = m .drive .kind; fraction = m .drive .fraction; speed = v; target = m .drive .target })
+speedChanged m v = withDrive m (m .ended) (withSpeedInForce (m .drive) v)
 
 -- "A switch reading replaces the contacts."
 abbrev pub contacted : Motor → ℕ → Motor

@@ -18,6 +18,7 @@ use record::Drive;
 use record::Motor;
 use record::Speeds;
 use record::Wiring;
+use record::no_drive;
 ghost use mathlib.Core.Path.{_≡_};
 ghost use Rattle.record.specs.Record.{withWiring, withDrive};
 ghost use Rattle.drive.specs.Drives.{speedNumbered, courseTo, towards, hindrance, judgeStart, launched, started};
@@ -150,14 +151,7 @@ pub fn start(m: Motor, c: Course) -> Motor
 pub fn end_drive(m: Motor, flags: u8) -> Motor
     ensures { λ r. ⌜ r ≡ endedWith flags m ⌝ }
 {
-    let none = Drive {
-        going: 0,
-        kind: 0,
-        fraction: 0,
-        speed: 0,
-        target: ORIGIN,
-    };
-    with_drive(m, flags, none)
+    with_drive(m, flags, no_drive())
 }
 
 // The motor after a stop with its flag; a stopped motor stays as it is.

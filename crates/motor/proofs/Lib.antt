@@ -1,5 +1,6 @@
 pub mod Laws
 pub mod SoundLaws
+pub mod MovingLaws
 pub mod StandingLaws
 pub mod BitLaws
 pub mod SmallLaws

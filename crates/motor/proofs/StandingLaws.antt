@@ -1,7 +1,7 @@
 -- Records with zeros where a drive would stand. Assumes nothing.
-use mathlib.Core.Path.{_≡_, refl, sym}
+use mathlib.Core.Path.{_≡_}
 use mathlib.Core.List.{List}
-use mathlib.Core.Bool.{Bool, true, false, _&&_, false≢true}
+use mathlib.Core.Bool.{true, false, _&&_}
 use Prim.Native.Nat.{ℕ, _+_, _%_, _<_}
 use native.Mathlib.Omega.{arith}
 use lib.ListN.{length}
@@ -57,32 +57,19 @@ not-origin : (w : ℕ) → w < 4294967296 → eqb w 0 ≡ false → eqb (placeOf
 unfolding placeOf
 not-origin w l e = let n : w ≡ 0 → ⊥ = eqb-false w 0 e in ne-eqb ((w + 2147483648) % 4294967296) origin (λ z. n (omega arith))
 
--- All bytes from 32 on are zero.
-pub zeros-sound : (b : List ℕ) → allZero (part b 32 8) ≡ true → allZero (part b 40 24) ≡ true
-    → (soundMotor (motorOf b) && allZero (part b 44 20)) ≡ (settingsInRange (motorOf b) && endFlagsInRange (motorOf b .ended))
+-- Bytes 32 to 43 are zero.
+pub zeros-sound : (b : List ℕ) → allZero (part b 32 8) ≡ true → word (part b 40 4) ≡ 0
+    → soundMotor (motorOf b) ≡ (settingsInRange (motorOf b) && endFlagsInRange (motorOf b .ended))
 unfolding motorOf placeOf
 zeros-sound b h t =
     let d = zeros-still b h in
-    let target = zeros-split b 40 4 20 t in
-    let stands : driveOf b ≡ standing = rw (d .going, d .kind, d .fraction, d .speed, target .0) in
-    rw (target .1, standing-sound (motorOf b) stands) (and-true (settingsInRange (motorOf b) && endFlagsInRange (motorOf b .ended)))
+    let stands : driveOf b ≡ standing = rw (d .going, d .kind, d .fraction, d .speed, t) in
+    standing-sound (motorOf b) stands
 
 -- Bytes 32 to 39 are zero, and there is a target.
-zeros-aimed : (b : List ℕ) → length b ≡ 64 → AllBytes b → allZero (part b 32 8) ≡ true → eqb (word (part b 40 4)) 0 ≡ false
+pub zeros-unsound : (b : List ℕ) → length b ≡ 64 → AllBytes b → allZero (part b 32 8) ≡ true → eqb (word (part b 40 4)) 0 ≡ false
     → soundMotor (motorOf b) ≡ false
 unfolding motorOf
-zeros-aimed b n bytes h p =
+zeros-unsound b n bytes h p =
     let below : word (part b 40 4) < 4294967296 = word-below 4 (part b 40 4) (part-length b 40 4 (omega arith)) (part-bytes b 40 4 bytes) in
     target-unsound (motorOf b) (zeros-still b h .going) (not-origin (word (part b 40 4)) below p)
-
--- Bytes 32 to 39 are zero, and one after them is not: it belongs to a target, or to no topic.
-pub zeros-unsound : (b : List ℕ) → length b ≡ 64 → AllBytes b → allZero (part b 32 8) ≡ true → allZero (part b 40 24) ≡ false
-    → (soundMotor (motorOf b) && allZero (part b 44 20)) ≡ false
-zeros-unsound b n bytes h t = go (eqb (word (part b 40 4)) 0) refl (allZero (part b 44 20)) refl (rw (zero-part b 40 4 20) at t)
-  where
-    go : (w : Bool) → eqb (word (part b 40 4)) 0 ≡ w → (z : Bool) → allZero (part b 44 20) ≡ z → (w && z) ≡ false
-        → (soundMotor (motorOf b) && allZero (part b 44 20)) ≡ false
-    go true p true q e = absurd (false≢true (sym e))
-    go true p false q e = rw (q) (and-false (soundMotor (motorOf b)))
-    go false p false q e = rw (q) (and-false (soundMotor (motorOf b)))
-    go false p true q e = rw (zeros-aimed b n bytes h p)

@@ -77,10 +77,18 @@ underWay m =
 abbrev pub busy : Motor → Bool
 busy m = not (eqb (m .drive .going) 0)
 
+-- it moves, "1 CW, 2 CCW": it gets pulses; here every busy motor does
+unfoldable pub moving : Motor → Bool
+moving m = busy m
+
 -- a motor is sound: its fields are in range, and it keeps the rules for a stopped or for a driving record
 unfoldable pub soundMotor : Motor → Bool
 soundMotor m = inRange m && cond (busy m) (underWay m) (atRest (m .drive))
 
--- a record is sound: 64 bytes, a sound motor in them, and "every byte given as zero is zero", 44 to 63
+-- "every byte given as zero is zero": 44 to 63; the one place where the bytes after the drive are judged
+abbrev pub restSound : List ℕ → Bool
+restSound b = allZero (part b 44 20)
+
+-- a record is sound: 64 bytes, a sound motor in them, and a sound rest
 unfoldable pub soundRecord : List ℕ → Bool
-soundRecord b = eqb (length b) 64 && soundMotor (motorOf b) && allZero (part b 44 20)
+soundRecord b = eqb (length b) 64 && soundMotor (motorOf b) && restSound b

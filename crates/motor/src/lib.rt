@@ -24,14 +24,14 @@ ghost use Prim.Native.Nat.{_≤_};
 ghost use lib.Dec.{eqb, leb};
 ghost use lib.Bits.{bitAnd};
 ghost use lib.ListN.{length};
-ghost use Rattle.digits.specs.Bytes.{part, allZero};
+ghost use Rattle.digits.specs.Bytes.{part};
 ghost use Rattle.digits.specs.Words.{word};
 ghost use Rattle.digits.specs.Places.{origin, isPosition, ahead};
 ghost use Rattle.record.specs.Record.{motorOf};
 ghost use Rattle.motor.specs.Switches.{switchOf, active, blocked, edge, room};
 ghost use Rattle.motor.specs.Sound.{isSpeed, limitsInRange, wiringInRange, setupInRange, settingsInRange};
 ghost use Rattle.motor.specs.Sound.{endFlagsInRange, driveInRange, atRest, underWay};
-ghost use Rattle.motor.specs.Sound.{busy, soundRecord};
+ghost use Rattle.motor.specs.Sound.{busy, moving, soundMotor, restSound, soundRecord};
 
 // The switch that a direction runs into, by its bit: 0 CW, 1 CCW.
 fn switch_of(going: u8) -> u8
@@ -240,6 +240,13 @@ pub fn is_busy(m: Motor) -> bool
     !(m.drive.going == 0)
 }
 
+// Whether a motor moves: a tick may give it pulses.
+pub fn is_moving(m: Motor) -> bool
+    ensures { λ r. ⌜ r ≡ moving m ⌝ }
+{
+    is_busy(m)
+}
+
 // Whether the drive of a motor whose other fields are sound is sound.
 fn drive_sound(m: Motor) -> bool
     ensures { λ r. ⌜ r ≡ (driveInRange (m .drive) && cond (busy m) (underWay m) (atRest (m .drive))) ⌝ }
@@ -256,10 +263,10 @@ fn drive_sound(m: Motor) -> bool
     }
 }
 
-// Whether the bytes that no topic has are zero.
-fn rest_zero(b: &[u8]) -> bool
+// Whether the bytes after the drive are sound, 44 to 63: they are zero.
+fn rest_sound(b: &[u8]) -> bool
     requires { ⌜ length (now b) ≡ 64 ⌝ }
-    ensures { λ r. ⌜ r ≡ allZero (part (now (b .entry)) 44 20) ⌝ }
+    ensures { λ r. ⌜ r ≡ restSound (now (b .entry)) ⌝ }
 {
     if long_at(b, 44) == 0 {
         if wide_at(b, 48) == 0 {
@@ -272,42 +279,30 @@ fn rest_zero(b: &[u8]) -> bool
     }
 }
 
-// Whether the bytes from the target on are zero.
-fn target_zero(b: &[u8]) -> bool
+// Whether 64 bytes hold a sound motor. Most motors stand, and so have zeros in bytes 32 to 43; then nothing else is asked there.
+fn motor_sound(b: &[u8]) -> bool
     requires { ⌜ length (now b) ≡ 64 ⌝ }
-    ensures { λ r. ⌜ r ≡ allZero (part (now (b .entry)) 40 24) ⌝ }
+    ensures { λ r. ⌜ r ≡ soundMotor (motorOf (now (b .entry))) ⌝ }
 {
-    if wide_at(b, 40) == 0 {
-        if wide_at(b, 48) == 0 {
-            wide_at(b, 56) == 0
+    if wide_at(b, 32) == 0 {
+        if long_at(b, 40) == 0 {
+            settings_sound(b)
         } else {
             false
         }
+    } else if settings_sound(b) {
+        drive_sound(read_motor(b))
     } else {
         false
     }
 }
 
-// Whether 64 bytes are a sound record. Most motors stand, and so have zeros from byte 32 on; then nothing else is asked there.
+// Whether 64 bytes are a sound record. The rest is the cheaper test, and so the first.
 fn sound_bytes(b: &[u8]) -> bool
     requires { ⌜ length (now b) ≡ 64 ⌝ }
     ensures { λ r. ⌜ r ≡ soundRecord (now (b .entry)) ⌝ }
 {
-    if wide_at(b, 32) == 0 {
-        if target_zero(b) {
-            settings_sound(b)
-        } else {
-            false
-        }
-    } else if rest_zero(b) {
-        if settings_sound(b) {
-            drive_sound(read_motor(b))
-        } else {
-            false
-        }
-    } else {
-        false
-    }
+    if rest_sound(b) { motor_sound(b) } else { false }
 }
 
 // Whether bytes are a sound record: bytes of any number and any value are judged.

@@ -8,9 +8,10 @@ use native.Mathlib.Omega.{arith}
 use borrow.Author.Tests.{leb-true, ne-eqb, not-true}
 use Rattle.digits.specs.Places.{isPosition, moved, ahead}
 use Rattle.record.specs.declared.Motor.{Motor}
-use Rattle.record.specs.Record.{withPlace, withDrive}
+use Rattle.record.specs.Record.{withPlace, withDrive, withFraction}
 use Rattle.motor.specs.Switches.{edge, room}
-use Rattle.motor.specs.Sound.{aimRight, busy, soundMotor}
+use Rattle.motor.specs.Sound.{aimRight, busy, moving, soundMotor}
+use Rattle.motor.proofs.MovingLaws.{moving-busy, busy-moves, carried-moves}
 use Rattle.motor.proofs.SoundLaws.{and-r, sound-busy, sound-bounds}
 use Rattle.motor.proofs.RoomLaws.{moved-none, moved-twice, ahead-moved, moved-ahead, room-moved}
 use Rattle.pulses.specs.declared.Ticked.{Ticked}
@@ -18,7 +19,7 @@ use Rattle.drive.specs.declared.Course.the-variants.{To}
 use Rattle.drive.specs.declared.Verdict.the-variants.{Done}
 use Rattle.drive.specs.Drives.{selectedSpeed, towards, judgeStart, wellAimed, started, endedWith}
 use Rattle.pulses.specs.Ticks.{tickSpeed, rest, toTarget, distanceLeft, roomLeft, given, tickMotor, ticks, roundedUp}
-use Rattle.pulses.proofs.Laws.{nothing-rounded, carried-below, given-due, stopped-given-none}
+use Rattle.pulses.proofs.Laws.{nothing-rounded, carried-below, given-due, speed-in-force, stopped-given-none}
 use Rattle.pulses.proofs.TickSound.{tick-sound}
 use Rattle.drive.proofs.KeptSound.{towards-ahead, started-sound}
 use Rattle.pulses.proofs.TickLaws.{Way, rests, arrives, ends, goes, way, goes-due, reached-all, reached-not, room-all}
@@ -39,11 +40,11 @@ pub ticks-sum : (j k : ℕ) (m : Motor) → ticks (j + k) m ≡ ticks j (ticks k
 ticks-sum zero k m = rw (zero-add, ticks-none)
 ticks-sum (suc j) k m = sum-more j k m (ticks-sum j k m)
 
--- Ticks leave a stopped motor as it is, and a sound motor sound.
-rest-more : (k : ℕ) (m : Motor) → busy m ≡ false → ticks k m ≡ m → ticks (suc k) m ≡ m
+-- Ticks leave a motor that does not move as it is, and a sound motor sound.
+rest-more : (k : ℕ) (m : Motor) → moving m ≡ false → ticks k m ≡ m → ticks (suc k) m ≡ m
 rest-more k m d e = rw (ticks-more, e, stopped-given-none)
 
-pub ticks-rest : (k : ℕ) (m : Motor) → busy m ≡ false → ticks k m ≡ m
+pub ticks-rest : (k : ℕ) (m : Motor) → moving m ≡ false → ticks k m ≡ m
 ticks-rest zero m d = ticks-none m
 ticks-rest (suc k) m d = rest-more k m d (ticks-rest k m d)
 
@@ -55,8 +56,7 @@ ticks-sound (suc k) m s = rw ticks-more (tick-sound (ticks k m) (ticks-sound k m
 -- the thousands are pulses, the rest is the fraction
 abbrev pub drivenBy : ℕ → Motor → Motor
 drivenBy t m =
-    withDrive (withPlace m (moved (m .drive .going) (m .place) (t / 1000))) (m .ended)
-    (record { going = m .drive .going; kind = m .drive .kind; fraction = t % 1000; speed = m .drive .speed; target = m .drive .target })
+    withDrive (withPlace m (moved (m .drive .going) (m .place) (t / 1000))) (m .ended) (withFraction (m .drive) (t % 1000))
 
 -- the motor of a drive that has arrived
 abbrev pub arrived : Motor → Motor
@@ -77,7 +77,7 @@ driven-more t v m =
 
 -- a drive to a target that lies ahead, within room, with a fraction and a speed in their ranges
 pub record OnCourse (m : Motor) : Type 0 where
-  pub drives : busy m ≡ true
+  pub drives : moving m ≡ true
   pub aimed : toTarget m ≡ true
   pub before : 1 ≤ distanceLeft m
   pub within : distanceLeft m ≤ roomLeft m
@@ -86,10 +86,10 @@ pub record OnCourse (m : Motor) : Type 0 where
 
 -- A sound drive to a target has the target ahead.
 pub sound-on-course :
-    (m : Motor) → soundMotor m ≡ true → busy m ≡ true → toTarget m ≡ true → distanceLeft m ≤ roomLeft m → OnCourse m
+    (m : Motor) → soundMotor m ≡ true → moving m ≡ true → toTarget m ≡ true → distanceLeft m ≤ roomLeft m → OnCourse m
 unfolding aimRight distanceLeft
 sound-on-course m s d t w =
-    let u = sound-busy m s d in
+    let u = sound-busy m s (moving-busy m d) in
     record { drives = d; aimed = t; before = leb-true 1 _ (rw t at (u .aim)); within = w; carries = omega (arith, sound-bounds m s .fraction); moves = u .slowest }
 
 -- On its way such a drive stays such a drive, with as many pulses less to go as it has been driven.
@@ -108,14 +108,11 @@ on-course-driven t m b h =
     let before : 1 ≤ distanceLeft (drivenBy t m) = omega arith in
     let within : distanceLeft (drivenBy t m) ≤ roomLeft (drivenBy t m) = omega arith in
     let carries : t % 1000 < 1000 = omega arith in
+    let drives : moving (drivenBy t m) ≡ true = carried-moves m (drivenBy t m .place) (m .ended) (t % 1000) ∙ b .drives in
     search
 
 -- One tick of such a drive, whatever its fraction: while the fraction and the speed do not make up the distance, it goes on;
 -- once they do, it arrives.
-speed-in-force : (m : Motor) → busy m ≡ true → tickSpeed m ≡ m .drive .speed
-unfolding tickSpeed
-speed-in-force m d = rw d
-
 pub tick-goes :
     (m : Motor) → OnCourse m → m .drive .fraction + m .drive .speed < 1000 * distanceLeft m
     → tickMotor m ≡ record { motor = drivenBy (m .drive .fraction + m .drive .speed) m; pulses = (m .drive .fraction + m .drive .speed) / 1000 }
@@ -193,7 +190,7 @@ pub lasts-before :
     → busy (ticks k m) ≡ true
 lasts-before m b k h =
     let under = below-rounded (distanceLeft m * 1000 - m .drive .fraction) (m .drive .speed) k (b .moves) h in
-    rw (ticks-go k m b (omega arith)) (b .drives)
+    rw (ticks-go k m b (omega arith)) (moving-busy m (b .drives))
 
 pub arrives-with :
     (m : Motor) → OnCourse m → ticks (roundedUp (distanceLeft m * 1000 - m .drive .fraction) (m .drive .speed)) m ≡ arrived m
@@ -214,7 +211,7 @@ arrives-with m b = go (roundedUp a v) refl
 
 -- "A drive to a target at distance D and speed v, with no stop, SPC or switch reading on its channel and D within room, ends
 -- at tick D·1000/v rounded up": it drives before that tick; with it, it stands stopped at its target, with end flags 0.
-module _ (m : Motor) (s : soundMotor m ≡ true) (d : busy m ≡ true) (t : toTarget m ≡ true) (f : m .drive .fraction ≡ 0) (w : distanceLeft m ≤ roomLeft m) where
+module _ (m : Motor) (s : soundMotor m ≡ true) (d : moving m ≡ true) (t : toTarget m ≡ true) (f : m .drive .fraction ≡ 0) (w : distanceLeft m ≤ roomLeft m) where
   no-fraction : distanceLeft m * 1000 - m .drive .fraction ≡ distanceLeft m * 1000
   no-fraction = omega arith
 
@@ -232,11 +229,11 @@ module _ (m : Motor) (s : soundMotor m ≡ true) (d : busy m ≡ true) (t : toTa
 -- The same of a drive from its start on: an accepted start of a sound motor to a place at distance D within room, at the
 -- selected speed.
 module _ (m : Motor) (p : ℕ) (s : soundMotor m ≡ true) (h : judgeStart m (To p) ≡ Done) (a : wellAimed m (To p) ≡ true) (w : ahead (towards m p) (m .place) p ≤ room (towards m p) m) where
-  started-drives : busy (started m (To p)) ≡ true
+  started-drives : moving (started m (To p)) ≡ true
   unfolding started
   started-drives =
       let t = towards-ahead m p (not-true _ (and-r (isPosition p) _ a)) in
-      rw (ne-eqb (towards m p) 0 (omega arith))
+      busy-moves (started m (To p)) (rw (ne-eqb (towards m p) 0 (omega arith)))
 
   pub started-drives-before :
       (k : ℕ) → k < roundedUp (ahead (towards m p) (m .place) p * 1000) (selectedSpeed m) → busy (ticks k (started m (To p))) ≡ true

@@ -7,7 +7,7 @@ use native.Mathlib.Omega.{arith}
 use lib.Dec.{eqb}
 use Rattle.digits.specs.Places.{cw, countOf}
 use Rattle.record.specs.declared.Motor.{Motor}
-use Rattle.motor.specs.Sound.{busy}
+use Rattle.motor.specs.Sound.{moving}
 use Rattle.pulses.specs.Ticks.{tickSpeed, due, rest, toTarget, distanceLeft, roomLeft, given, tickMotor, tickCount}
 
 -- Nothing is rounded: what is due and what is carried are the fraction and the speed, to the thousandth, and less than a
@@ -37,8 +37,17 @@ pub given-distance : (m : Motor) → toTarget m ≡ true → given m ≤ distanc
 unfolding given
 given-distance m e = rw e (omega arith)
 
--- A motor that stands stopped gets no pulse and stays as it is.
-pub stopped-given-none : (m : Motor) → busy m ≡ false → tickMotor m ≡ record { motor = m; pulses = 0 }
+-- A motor that moves goes at its speed in force.
+pub speed-in-force : (m : Motor) → moving m ≡ true → tickSpeed m ≡ m .drive .speed
+unfolding tickSpeed
+speed-in-force m e = rw e
+
+-- A motor that does not move goes at no speed, gets no pulse and stays as it is.
+pub still-speed : (m : Motor) → moving m ≡ false → tickSpeed m ≡ 0
+unfolding tickSpeed
+still-speed m e = rw e
+
+pub stopped-given-none : (m : Motor) → moving m ≡ false → tickMotor m ≡ record { motor = m; pulses = 0 }
 unfolding tickMotor
 stopped-given-none m e = rw e
 
@@ -51,6 +60,6 @@ none-counted going = go (eqb going cw)
     go true = refl
     go false = refl
 
-pub stopped-count : (m : Motor) → busy m ≡ false → tickCount m ≡ 0
+pub stopped-count : (m : Motor) → moving m ≡ false → tickCount m ≡ 0
 unfolding tickCount
 stopped-count m e = rw (stopped-given-none m e) (none-counted _)

@@ -9,12 +9,13 @@ use borrow.Author.Tests.{leb-true, leb-false, eqb-true, eqb-false}
 use Rattle.digits.specs.Places.{moved}
 use Rattle.record.specs.declared.Motor.{Motor}
 use Rattle.record.specs.Record.{standing}
-use Rattle.motor.specs.Sound.{busy}
+use Rattle.motor.specs.Sound.{busy, moving}
+use Rattle.motor.proofs.MovingLaws.{moving-busy, carried-moves}
 use Rattle.motor.proofs.RoomLaws.{moved-none}
 use Rattle.pulses.specs.declared.Ticked.{Ticked}
 use Rattle.drive.specs.Drives.{endedWith, lsend}
-use Rattle.pulses.specs.Ticks.{tickSpeed, due, toTarget, distanceLeft, roomLeft, given, reached, usedUp, advanced, goesOn, drivenOn, tickMotor}
-use Rattle.pulses.proofs.Laws.{nothing-rounded, given-due, given-room, given-distance}
+use Rattle.pulses.specs.Ticks.{tickSpeed, due, rest, toTarget, distanceLeft, roomLeft, given, reached, usedUp, advanced, goesOn, drivenOn, tickMotor}
+use Rattle.pulses.proofs.Laws.{nothing-rounded, given-due, given-room, given-distance, still-speed}
 
 -- "Pulses given are the least of due, room and, for a target, the distance left": they are one of the three.
 least-of-two : (a b : ℕ) → (min a b ≡ a) ⊎ (min a b ≡ b)
@@ -59,17 +60,17 @@ room-not m e = omega (arith, eqb-false (given m) (roomLeft m) e, given-room m)
 
 -- the four ways that a tick can go, for proofs: the motor rests, arrives at its target, ends with its room, or goes on
 pub data Way (m : Motor) : Ticked → Type 0 where
-  rests : busy m ≡ false → Way m (record { motor = m; pulses = 0 })
-  arrives : busy m ≡ true → reached m ≡ true → Way m (record { motor = endedWith 0 (advanced m); pulses = given m })
-  ends : busy m ≡ true → reached m ≡ false → usedUp m ≡ true → Way m (record { motor = endedWith lsend (advanced m); pulses = given m })
-  goes : busy m ≡ true → reached m ≡ false → usedUp m ≡ false → Way m (record { motor = goesOn m; pulses = given m })
+  rests : moving m ≡ false → Way m (record { motor = m; pulses = 0 })
+  arrives : moving m ≡ true → reached m ≡ true → Way m (record { motor = endedWith 0 (advanced m); pulses = given m })
+  ends : moving m ≡ true → reached m ≡ false → usedUp m ≡ true → Way m (record { motor = endedWith lsend (advanced m); pulses = given m })
+  goes : moving m ≡ true → reached m ≡ false → usedUp m ≡ false → Way m (record { motor = goesOn m; pulses = given m })
 
 -- Every tick goes one of them.
 pub way : (m : Motor) → Way m (tickMotor m)
 unfolding tickMotor drivenOn
-way m = go (busy m) refl (reached m) refl (usedUp m) refl
+way m = go (moving m) refl (reached m) refl (usedUp m) refl
   where
-    go : (d : Bool) → busy m ≡ d → (r : Bool) → reached m ≡ r → (u : Bool) → usedUp m ≡ u
+    go : (d : Bool) → moving m ≡ d → (r : Bool) → reached m ≡ r → (u : Bool) → usedUp m ≡ u
         → Way m (cond d (record { motor = cond r (endedWith 0 (advanced m)) (cond u (endedWith lsend (advanced m)) (goesOn m)); pulses = given m }) (record { motor = m; pulses = 0 }))
     go false d r er u eu = rests d
     go true d true r u eu = arrives d r
@@ -92,7 +93,7 @@ pub carried :
 carried m = go (way m)
   where
     go : {t : Ticked} → Way m t → busy (t .motor) ≡ true → 1000 * t .pulses + t .motor .drive .fraction ≡ m .drive .fraction + tickSpeed m
-    go (rests d) h = cc
+    go (rests d) h = omega (arith, still-speed m d)
     go (arrives d r) h = cc
     go (ends d r u) h = cc
     go (goes d r u) h = omega (arith, nothing-rounded m, goes-due m r u)
@@ -152,6 +153,16 @@ drive-stays m = go (way m)
     go (ends d r u) h = absurd (false≢true h)
     go (goes d r u) h = search
 
+-- A motor whose drive a tick does not end moves after it if it did before.
+pub moving-stays : (m : Motor) → busy (tickMotor m .motor) ≡ true → moving (tickMotor m .motor) ≡ moving m
+moving-stays m = go (way m)
+  where
+    go : {t : Ticked} → Way m t → busy (t .motor) ≡ true → moving (t .motor) ≡ moving m
+    go (rests d) h = refl
+    go (arrives d r) h = absurd (false≢true h)
+    go (ends d r u) h = absurd (false≢true h)
+    go (goes d r u) h = carried-moves m (advanced m .place) (m .ended) (rest m)
+
 -- A drive that a tick ends leaves nothing behind, and ends with flags 0 or with LSEND.
 pub drive-ends :
     (m : Motor) → busy m ≡ true → busy (tickMotor m .motor) ≡ false
@@ -159,7 +170,7 @@ pub drive-ends :
 drive-ends m e = go (way m)
   where
     go : {t : Ticked} → Way m t → busy (t .motor) ≡ false → (t .motor .drive ≡ standing) × ((t .motor .ended ≡ 0) ⊎ (t .motor .ended ≡ lsend))
-    go (rests d) h = absurd (false≢true (sym d ∙ e))
+    go (rests d) h = absurd (false≢true (sym h ∙ e))
     go (arrives d r) h = (refl, inl refl)
     go (ends d r u) h = (refl, inr refl)
-    go (goes d r u) h = absurd (false≢true (sym h ∙ d))
+    go (goes d r u) h = absurd (false≢true (sym h ∙ moving-busy m d))

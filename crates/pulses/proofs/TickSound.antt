@@ -8,7 +8,8 @@ use borrow.Author.Tests.{le-leb}
 use Rattle.digits.specs.Places.{origin, ahead}
 use Rattle.record.specs.declared.Motor.{Motor}
 use Rattle.motor.specs.Switches.{blocked, edge, room}
-use Rattle.motor.specs.Sound.{aimRight, busy, soundMotor}
+use Rattle.motor.specs.Sound.{aimRight, moving, soundMotor}
+use Rattle.motor.proofs.MovingLaws.{moving-busy}
 use Rattle.motor.proofs.SoundLaws.{InRange, sound-parts, sound-busy, busy-sound, range-bounds, sound-bounds, target-position, bounds-drive}
 use Rattle.motor.proofs.RoomLaws.{ahead-moved, room-moved, room-position}
 use Rattle.pulses.specs.declared.Ticked.{Ticked}
@@ -46,20 +47,20 @@ tick-sound m s = go (way m)
     go (arrives d e) = ended-sound 0 (advanced m) refl r
     go (ends d e u) = ended-sound lsend (advanced m) refl r
     go (goes d e u) =
-        let w = sound-busy m s d in
+        let w = sound-busy m s (moving-busy m d) in
         let b = range-bounds (advanced m) r in
         let drive = bounds-drive (goesOn m .drive) (b .going) (b .kind) (omega (arith, carried-below m)) (target-position (m .drive) (r .drive)) in
         let leeway : 1 ≤ room (m .drive .going) (goesOn m) = omega (arith, room-moved (m .drive .going) m (given m), room-not m u) in
         let aim = goes-on-aimed m (w .aim) e in
-        busy-sound (goesOn m) (search r) (search) d
+        busy-sound (goesOn m) (search r) (search) (moving-busy m d)
 
 -- A tick of a sound motor goes at 5,000,000 pps at most, and gives 5,000 pulses at most.
 pub tick-speed-bound : (m : Motor) → soundMotor m ≡ true → tickSpeed m ≤ 5000000
 unfolding tickSpeed
-tick-speed-bound m s = go (busy m) refl
+tick-speed-bound m s = go (moving m) refl
   where
-    go : (t : Bool) → busy m ≡ t → cond t (m .drive .speed) 0 ≤ 5000000
-    go true d = sound-busy m s d .fastest
+    go : (t : Bool) → moving m ≡ t → cond t (m .drive .speed) 0 ≤ 5000000
+    go true d = sound-busy m s (moving-busy m d) .fastest
     go false d = omega arith
 
 pub due-bound : (m : Motor) → soundMotor m ≡ true → due m ≤ 5000

@@ -5,14 +5,14 @@ use lib.Dec.{eqb}
 use Rattle.digits.specs.Places.{moved, ahead, countOf}
 use Rattle.record.specs.declared.Motor.{Motor}
 use Rattle.pulses.specs.declared.Ticked.{Ticked}
-use Rattle.record.specs.Record.{withPlace, withDrive}
+use Rattle.record.specs.Record.{withPlace, withDrive, withFraction}
 use Rattle.motor.specs.Switches.{room}
-use Rattle.motor.specs.Sound.{busy}
+use Rattle.motor.specs.Sound.{moving}
 use Rattle.drive.specs.Drives.{endedWith, lsend}
 
--- the speed that a tick goes at: "the speed in force"; a motor that stands stopped goes at none
+-- the speed that a tick goes at: "the speed in force"; a motor that does not move goes at none
 unfoldable pub tickSpeed : Motor → ℕ
-tickSpeed m = cond (busy m) (m .drive .speed) 0
+tickSpeed m = cond (moving m) (m .drive .speed) 0
 
 -- "add the speed to the fraction; the thousands are due"
 unfoldable pub due : Motor → ℕ
@@ -56,19 +56,17 @@ advanced m = withPlace m (moved (m .drive .going) (m .place) (given m))
 
 -- "the rest is the new fraction": the drive goes on with it
 abbrev pub goesOn : Motor → Motor
-goesOn m =
-    withDrive (advanced m) (m .ended)
-    (record { going = m .drive .going; kind = m .drive .kind; fraction = rest m; speed = m .drive .speed; target = m .drive .target })
+goesOn m = withDrive (advanced m) (m .ended) (withFraction (m .drive) (rest m))
 
 -- "If the target is reached the drive ends with flags 0, also where it lies on a limit; otherwise, if room is used up, it
 -- ends with LSEND."
 unfoldable pub drivenOn : Motor → Motor
 drivenOn m = cond (reached m) (endedWith 0 (advanced m)) (cond (usedUp m) (endedWith lsend (advanced m)) (goesOn m))
 
--- one tick of one motor: the motor after it, and the pulses given, none to a stopped motor
+-- one tick of one motor: the motor after it, and the pulses given, none to a motor that does not move
 unfoldable pub tickMotor : Motor → Ticked
 tickMotor m =
-    cond (busy m) (record { motor = drivenOn m; pulses = given m }) (record { motor = m; pulses = 0 })
+    cond (moving m) (record { motor = drivenOn m; pulses = given m }) (record { motor = m; pulses = 0 })
 
 -- the count that a tick puts into the pulse buffer: "CW positive, 0 for a stopped motor"
 unfoldable pub tickCount : Motor → ℕ

@@ -9,7 +9,7 @@ use digits::smaller;
 use drive::LSEND;
 use drive::end_drive;
 use drive::with_drive;
-use motor::is_busy;
+use motor::is_moving;
 use motor::room_of;
 use record::Motor;
 ghost use mathlib.Core.Path.{_≡_};
@@ -33,11 +33,11 @@ fn with_place(m: Motor, p: u32) -> Motor
     n
 }
 
-// The speed that a tick goes at: none if the motor stands stopped.
+// The speed that a tick goes at: none if the motor does not move.
 fn tick_speed(m: Motor) -> u32
     ensures { λ r. ⌜ r ≡ tickSpeed m ⌝ }
 {
-    choose(is_busy(m), m.drive.speed, 0)
+    choose(is_moving(m), m.drive.speed, 0)
 }
 
 // The fraction and the speed together, in thousandths of a pulse.
@@ -80,7 +80,7 @@ fn allowed_pulses(going: u8, m: Motor) -> u32
     choose(m.drive.kind == 1, smaller(room, left), room)
 }
 
-// The pulses that a tick gives a driving motor: what is due, as far as it is allowed.
+// The pulses that a tick gives a moving motor: what is due, as far as it is allowed.
 fn given_pulses(going: u8, m: Motor) -> u32
     requires { ⌜ going ≡ m .drive .going ⌝ }
     ensures { λ r. ⌜ r ≡ given m ⌝ }
@@ -123,7 +123,7 @@ fn go_on(going: u8, n: u32, m: Motor) -> Motor
     with_drive(advance(going, n, m), m.ended, d)
 }
 
-// A driving motor after this tick.
+// A moving motor after this tick.
 fn drive_on(going: u8, n: u32, m: Motor) -> Motor
     requires { ⌜ (going ≡ m .drive .going) × (n ≡ given m) ⌝ }
     ensures { λ r. ⌜ r ≡ drivenOn m ⌝ }
@@ -137,8 +137,8 @@ fn drive_on(going: u8, n: u32, m: Motor) -> Motor
     go_on(going, n, m)
 }
 
-// One tick of a driving motor, in the direction of its drive.
-fn tick_driving(going: u8, m: Motor) -> Ticked
+// One tick of a moving motor, in the direction of its drive.
+fn tick_moving(going: u8, m: Motor) -> Ticked
     requires { ⌜ going ≡ m .drive .going ⌝ }
     ensures { λ r. ⌜ r ≡ record { motor = drivenOn m; pulses = given m } ⌝ }
 {
@@ -147,14 +147,16 @@ fn tick_driving(going: u8, m: Motor) -> Ticked
     Ticked { motor, pulses }
 }
 
-// One tick of one motor: the motor after it and the pulses that it was given; a stopped motor stays and gets none.
+// One tick of one motor: the motor after it and the pulses that it was given; one that does not move stays and gets none.
 pub fn tick(m: Motor) -> Ticked
     ensures { λ r. ⌜ r ≡ tickMotor m ⌝ }
 {
-    if m.drive.going == CW {
-        tick_driving(CW, m)
-    } else if is_busy(m) {
-        tick_driving(m.drive.going, m)
+    if is_moving(m) {
+        if m.drive.going == CW {
+            tick_moving(CW, m)
+        } else {
+            tick_moving(m.drive.going, m)
+        }
     } else {
         Ticked {
             motor: m,

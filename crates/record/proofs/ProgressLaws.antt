@@ -11,14 +11,12 @@ use Rattle.digits.specs.Words.{wordBytes}
 use Rattle.digits.proofs.PutLaws.{put-length}
 use Rattle.record.specs.declared.Drive.{Drive}
 use Rattle.record.specs.declared.Motor.{Motor}
-use Rattle.record.specs.Record.{placeBytes, settingBytes, recordOf, withPlace, withDrive, standing}
+use Rattle.record.specs.Record.{placeBytes, settingBytes, recordOf, withPlace, withDrive, withFraction, standing}
 use Rattle.record.specs.Progress.{flagsAndDrive, progressed}
 
 -- the motor with another fraction carried
-abbrev pub withFraction : Motor → ℕ → Motor
-withFraction m n =
-    withDrive m (m .ended)
-    (record { going = m .drive .going; kind = m .drive .kind; fraction = n; speed = m .drive .speed; target = m .drive .target })
+abbrev pub carrying : Motor → ℕ → Motor
+carrying m n = withDrive m (m .ended) (withFraction (m .drive) n)
 
 -- The position, the end flags with the drive, and the fraction, each written by itself.
 pub place-written : (m : Motor) (p : ℕ) → put (recordOf m) 0 (placeBytes p) ≡ recordOf (withPlace m p)
@@ -29,7 +27,7 @@ pub drive-written : (m : Motor) (ended : ℕ) (d : Drive) → put (recordOf m) 3
 unfolding put recordOf settingBytes joined wordBytes
 drive-written m ended d = refl
 
-pub fraction-written : (m : Motor) (n : ℕ) → put (recordOf m) 34 (wordBytes 2 n) ≡ recordOf (withFraction m n)
+pub fraction-written : (m : Motor) (n : ℕ) → put (recordOf m) 34 (wordBytes 2 n) ≡ recordOf (carrying m n)
 unfolding put recordOf settingBytes joined wordBytes
 fraction-written m n = refl
 
@@ -40,7 +38,7 @@ unfolding progressed
 ended-written m p ended = rw (place-written m p) (drive-written (withPlace m p) ended standing)
 
 pub going-written : (m : Motor) (p n : ℕ) → eqb (m .drive .going) 0 ≡ false
-    → progressed (recordOf m) (withFraction (withPlace m p) n) ≡ recordOf (withFraction (withPlace m p) n)
+    → progressed (recordOf m) (carrying (withPlace m p) n) ≡ recordOf (carrying (withPlace m p) n)
 unfolding progressed
 going-written m p n d = rw (d, place-written m p) (fraction-written (withPlace m p) n)
 

@@ -17,7 +17,7 @@ use Rattle.record.specs.declared.Limits.{Limits}
 use Rattle.record.specs.declared.Speeds.{Speeds}
 use Rattle.record.specs.declared.Drive.{Drive}
 use Rattle.record.specs.declared.Motor.{Motor}
-use Rattle.record.specs.Record.{byteAt, shortAt, longAt, placeAt, limitsOf, speedsOf, wiringOf, setupOf, driveOf, motorOf, placeBytes, limitBytes, speedBytes, wiringBytes, setupBytes, settingBytes, driveBytes, recordOf, standing}
+use Rattle.record.specs.Record.{byteAt, shortAt, longAt, placeAt, limitsOf, speedsOf, wiringOf, setupOf, driveOf, motorOf, placeBytes, limitBytes, speedBytes, wiringBytes, setupBytes, settingBytes, goingByte, driveBytes, restBytes, recordOf, standing}
 
 -- every number of a motor fits the bytes that it is written in, as the types of the code have it
 pub record FitsRecord (m : Motor) : Type 0 where
@@ -58,8 +58,8 @@ pub standing-zero : (m : Motor) → m .drive ≡ standing → part (recordOf m) 
 unfolding joined wordBytes wordOf
 standing-zero m e = rw (drive-part m, e)
 
--- Bytes 44 to 63 are zero.
-pub rest-part : (m : Motor) → part (recordOf m) 44 20 ≡ replicate 20 0
+-- Bytes 44 to 63 are the rest.
+pub rest-part : (m : Motor) → part (recordOf m) 44 20 ≡ restBytes m
 unfolding recordOf settingBytes joined part wordBytes
 rest-part m = refl
 
@@ -73,7 +73,7 @@ pub record FitsBytes (m : Motor) : Type 0 where
   pub c : m .setup .c < 256
   pub d : m .setup .d < 256
   pub ended : m .ended < 256
-  pub going : m .drive .going < 256
+  pub going : goingByte (m .drive) < 256
   pub kind : m .drive .kind < 256
 
 limit-bytes : (l : Limits) → AllBytes (limitBytes l)
@@ -84,7 +84,7 @@ speed-bytes : (v : Speeds) → v .selected < 256 → AllBytes (speedBytes v)
 unfolding joined
 speed-bytes v h = search (word-bytes-bytes, none-bytes, cons-bytes, append-bytes) depth 8
 
-drive-bytes : (d : Drive) → d .going < 256 → d .kind < 256 → AllBytes (driveBytes d)
+drive-bytes : (d : Drive) → goingByte d < 256 → d .kind < 256 → AllBytes (driveBytes d)
 unfolding joined
 drive-bytes d g k = search (word-bytes-bytes, none-bytes, cons-bytes, append-bytes) depth 8
 
@@ -139,11 +139,11 @@ module _ (b : List ℕ) (whole : length b ≡ 64) (bytes : AllBytes b) where
       rw (word-back 34 2 (omega arith), word-back 36 4 (omega arith), place-back 40 (omega arith), cut-joined (2 ∷ 4 ∷ 4 ∷ []) b 34, cons-back 33 10 (omega arith))
       (cons-back 32 11 (omega arith))
 
-  zeros-back : allZero (part b 44 20) ≡ true → replicate 20 0 ≡ part b 44 20
-  zeros-back z = rw (zero-bytes (part b 44 20) z, part-length b 44 20 (omega arith))
+  rest-back : allZero (part b 44 20) ≡ true → restBytes (motorOf b) ≡ part b 44 20
+  rest-back z = rw (zero-bytes (part b 44 20) z, part-length b 44 20 (omega arith))
 
   -- Read and written back is the same bytes, where those that no topic has are zero.
   pub read-written : allZero (part b 44 20) ≡ true → recordOf (motorOf b) ≡ b
   unfolding recordOf motorOf
   read-written z =
-      rw (settings-back, byte-back 31 (omega arith), drive-back, zeros-back z) (cut-joined (31 ∷ 1 ∷ 12 ∷ 20 ∷ []) b 0 ∙ rw (← whole) (part-whole b))
+      rw (settings-back, byte-back 31 (omega arith), drive-back, rest-back z) (cut-joined (31 ∷ 1 ∷ 12 ∷ 20 ∷ []) b 0 ∙ rw (← whole) (part-whole b))

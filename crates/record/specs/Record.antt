@@ -44,11 +44,18 @@ wiringOf b = record { setls = byteAt b 25; contacts = byteAt b 26 }
 abbrev pub setupOf : List ℕ → Setup
 setupOf b = record { a = byteAt b 27; b = byteAt b 28; c = byteAt b 29; d = byteAt b 30 }
 
+-- the direction that byte 32 tells: "0 stopped, 1 CW, 2 CCW"; and the byte that tells it of a drive
+abbrev pub goingOf : ℕ → ℕ
+goingOf b = b
+
+abbrev pub goingByte : Drive → ℕ
+goingByte d = d .going
+
 -- 32, 33 "0 stopped, 1 CW, 2 CCW; kind: 0 scan, 1 to a target"; 34-35, 36-39, 40-43 "fraction 0..999, speed in force, target"
 abbrev pub driveOf : List ℕ → Drive
 driveOf b =
     record
-    { going = byteAt b 32; kind = byteAt b 33; fraction = shortAt b 34; speed = longAt b 36; target = placeAt b 40 }
+    { going = goingOf (byteAt b 32); kind = byteAt b 33; fraction = shortAt b 34; speed = longAt b 36; target = placeAt b 40 }
 
 -- the motor that a record holds: all that the table of "Record bytes" lists; 0-3 "position", 31 "end flags: 80h ESEND, 40h
 -- SSEND, 20h LSEND, or 0"
@@ -93,11 +100,15 @@ settingBytes m =
 -- 32, 33, 34-35, 36-39, 40-43 as they are written
 abbrev pub driveBytes : Drive → List ℕ
 driveBytes d =
-    joined ((d .going ∷ d .kind ∷ []) ∷ wordBytes 2 (d .fraction) ∷ wordBytes 4 (d .speed) ∷ placeBytes (d .target) ∷ [])
+    joined ((goingByte d ∷ d .kind ∷ []) ∷ wordBytes 2 (d .fraction) ∷ wordBytes 4 (d .speed) ∷ placeBytes (d .target) ∷ [])
 
--- the record of a motor: the topics in the order of their bytes, and "44-63 | zero"
+-- "44-63 | zero": what is written after the drive
+abbrev pub restBytes : Motor → List ℕ
+restBytes m = replicate 20 0
+
+-- the record of a motor: the topics in the order of their bytes
 unfoldable pub recordOf : Motor → List ℕ
-recordOf m = joined (settingBytes m ∷ (m .ended ∷ []) ∷ driveBytes (m .drive) ∷ replicate 20 0 ∷ [])
+recordOf m = joined (settingBytes m ∷ (m .ended ∷ []) ∷ driveBytes (m .drive) ∷ restBytes m ∷ [])
 
 -- the motor with another position
 abbrev pub withPlace : Motor → ℕ → Motor
@@ -123,6 +134,14 @@ withSetup m s = record { place = m .place; limits = m .limits; speeds = m .speed
 -- them
 abbrev pub withDrive : Motor → ℕ → Drive → Motor
 withDrive m e d = record { place = m .place; limits = m .limits; speeds = m .speeds; wiring = m .wiring; setup = m .setup; ended = e; drive = d }
+
+-- the drive with another fraction carried
+abbrev pub withFraction : Drive → ℕ → Drive
+withFraction d n = record { going = d .going; kind = d .kind; fraction = n; speed = d .speed; target = d .target }
+
+-- the drive with another speed in force
+abbrev pub withSpeedInForce : Drive → ℕ → Drive
+withSpeedInForce d v = record { going = d .going; kind = d .kind; fraction = d .fraction; speed = v; target = d .target }
 
 -- "a stopped record has zeros in 33..43": no drive. Target field 0 is the place of position 0.
 abbrev pub standing : Drive

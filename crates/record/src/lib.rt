@@ -14,11 +14,11 @@ use digits::words::short_at;
 ghost use mathlib.Core.Path.{_≡_};
 ghost use mathlib.Core.List.{[], _∷_};
 ghost use Prim.Native.Nat.{_+_, _≤_};
-ghost use lib.ListN.{length, replicate};
+ghost use lib.ListN.{length};
 ghost use Rattle.digits.specs.Bytes.{put};
 ghost use Rattle.record.specs.Record.{placeAt, limitsOf, speedsOf, wiringOf, setupOf, driveOf, motorOf};
 ghost use Rattle.record.specs.Record.{placeBytes, limitBytes, speedBytes, wiringBytes, setupBytes, settingBytes};
-ghost use Rattle.record.specs.Record.{driveBytes, recordOf};
+ghost use Rattle.record.specs.Record.{driveBytes, restBytes, recordOf, standing};
 ghost use Rattle.record.specs.Progress.{flagsAndDrive, progressed};
 
 // The digital limits.
@@ -68,6 +68,19 @@ pub struct Motor {
     pub setup: Setup,
     pub ended: u8,
     pub drive: Drive,
+}
+
+// The drive of a stopped motor.
+pub fn no_drive() -> Drive
+    ensures { λ r. ⌜ r ≡ standing ⌝ }
+{
+    Drive {
+        going: 0,
+        kind: 0,
+        fraction: 0,
+        speed: 0,
+        target: ORIGIN,
+    }
 }
 
 // The place of the signed number in the four bytes from an offset on.
@@ -231,10 +244,10 @@ fn put_drive(b: &mut [u8], d: Drive)
     put_place(b, 40, d.target);
 }
 
-// Zeroes the bytes that no topic has, 44 to 63.
-fn put_zeros(b: &mut [u8])
+// Writes what comes after the drive, bytes 44 to 63: zeros, of every motor.
+fn put_rest(b: &mut [u8], m: Motor)
     requires { ⌜ length (now b) ≡ 64 ⌝ }
-    ensures { λ r. ⌜ now (b .exit) ≡ put (now (b .entry)) 44 (replicate 20 0) ⌝ }
+    ensures { λ r. ⌜ now (b .exit) ≡ put (now (b .entry)) 44 (restBytes m) ⌝ }
 {
     put_long(b, 44, 0);
     put_long(b, 48, 0);
@@ -252,7 +265,7 @@ pub fn write_motor(b: &mut [u8], m: Motor)
     put_settings(b, m);
     put_byte(b, 31, m.ended);
     put_drive(b, drive);
-    put_zeros(b);
+    put_rest(b, m);
 }
 
 // Writes the end flags and the drive alone, bytes 31 to 43: all that a stop changes.
@@ -270,16 +283,9 @@ pub fn write_progress(b: &mut [u8], m: Motor)
     requires { ⌜ length (now b) ≡ 64 ⌝ }
     ensures { λ r. ⌜ now (b .exit) ≡ progressed (now (b .entry)) m ⌝ }
 {
-    let none = Drive {
-        going: 0,
-        kind: 0,
-        fraction: 0,
-        speed: 0,
-        target: ORIGIN,
-    };
     put_place(b, 0, m.place);
     if m.drive.going == 0 {
-        write_drive(b, m.ended, none);
+        write_drive(b, m.ended, no_drive());
     } else {
         put_short(b, 34, m.drive.fraction);
     }

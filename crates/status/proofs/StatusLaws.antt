@@ -17,12 +17,12 @@ position-within p = signed-within 7 p (omega arith)
 
 -- The letters, the flags and the position, written one after the other, are the status.
 pub status-put : (t : List ℕ) (k x : ℕ) (m : Motor) → 32 ≤ length t
-    → put (put (put t 0 (modeLetter k ∷ hexDigit x ∷ goingLetter (m .drive .going) ∷ [])) 3 (hexDigit (statusV m) ∷ hexByte (statusHH m))) 6
+    → put (put (put t 0 (modeLetter k ∷ hexDigit x ∷ goingLetter m ∷ [])) 3 (hexDigit (statusV m) ∷ hexByte (statusHH m))) 6
     (positionText (m .place))
     ≡ put t 0 (statusText k x m)
 unfolding statusText hexByte joined
 status-put t k x m h =
-    let letters = modeLetter k ∷ hexDigit x ∷ goingLetter (m .drive .going) ∷ [] in
+    let letters = modeLetter k ∷ hexDigit x ∷ goingLetter m ∷ [] in
     let flags = hexDigit (statusV m) ∷ hexByte (statusHH m) in
     rw append-nil at
     (lay-put (letters ∷ flags ∷ positionText (m .place) ∷ []) t 0

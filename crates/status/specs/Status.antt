@@ -8,7 +8,7 @@ use Rattle.digits.specs.Places.{cw}
 use Rattle.text.specs.Text.{signedDecimal, hexDigit, hexByte}
 use Rattle.record.specs.declared.Motor.{Motor}
 use Rattle.motor.specs.Switches.{active}
-use Rattle.motor.specs.Sound.{busy}
+use Rattle.motor.specs.Sound.{busy, moving}
 
 -- "positions and limits, a sign (+ for 0) and at least 7 digits"
 abbrev pub positionText : ℕ → List ℕ
@@ -26,18 +26,18 @@ statusV m =
 
 -- "HH: the end flags, or 03 while driving (000)"
 unfoldable pub statusHH : Motor → ℕ
-statusHH m = cond (busy m) 3 (m .ended)
+statusHH m = cond (moving m) 3 (m .ended)
 
 -- "R or L": R is remote mode, L local
 unfoldable pub modeLetter : ℕ → ℕ
 modeLetter k = cond (eqb k 0) (code "L") (code "R")
 
--- "P, N or S": driving CW, driving CCW, stopped
-unfoldable pub goingLetter : ℕ → ℕ
-goingLetter g = cond (eqb g 0) (code "S") (cond (eqb g cw) (code "P") (code "N"))
+-- "P, N or S": moving CW, moving CCW, not moving
+unfoldable pub goingLetter : Motor → ℕ
+goingLetter m = cond (moving m) (cond (eqb (m .drive .going) cw) (code "P") (code "N")) (code "S")
 
 -- "`STSx?`: R or L; x; P, N or S; one hex digit V; two hex digits HH; position."
 unfoldable pub statusText : ℕ → ℕ → Motor → List ℕ
 statusText k x m =
-    modeLetter k ∷ hexDigit x ∷ goingLetter (m .drive .going) ∷ hexDigit (statusV m)
+    modeLetter k ∷ hexDigit x ∷ goingLetter m ∷ hexDigit (statusV m)
     ∷ (hexByte (statusHH m) ++ positionText (m .place))

@@ -3,6 +3,7 @@
 use digits::places::CW;
 use motor::is_active;
 use motor::is_busy;
+use motor::is_moving;
 use record::Motor;
 use record::Wiring;
 use text::decimal::write_signed;
@@ -42,7 +43,7 @@ fn status_v(m: Motor) -> u8
 fn status_hh(m: Motor) -> u8
     ensures { λ r. ⌜ r ≡ statusHH m ⌝ }
 {
-    if is_busy(m) { 3 } else { m.ended }
+    if is_moving(m) { 3 } else { m.ended }
 }
 
 fn mode_letter(k: u8) -> u8
@@ -51,27 +52,25 @@ fn mode_letter(k: u8) -> u8
     if k == 0 { b'L' } else { b'R' }
 }
 
-fn going_letter(going: u8) -> u8
-    ensures { λ r. ⌜ r ≡ goingLetter going ⌝ }
+fn going_letter(m: Motor) -> u8
+    ensures { λ r. ⌜ r ≡ goingLetter m ⌝ }
 {
-    if going == 0 {
-        b'S'
-    } else if going == CW {
-        b'P'
+    if is_moving(m) {
+        if m.drive.going == CW { b'P' } else { b'N' }
     } else {
-        b'N'
+        b'S'
     }
 }
 
 // The mode, the channel and which way it goes: bytes 0 to 2.
-fn write_letters(out: &mut [u8], k: u8, x: u8, going: u8)
+fn write_letters(out: &mut [u8], k: u8, x: u8, m: Motor)
     requires { ⌜ 32 ≤ length (now out) ⌝ }
     requires { ⌜ x ≤ 15 ⌝ }
-    ensures { λ _. ⌜ now (out .exit) ≡ put (now (out .entry)) 0 (modeLetter k ∷ hexDigit x ∷ goingLetter going ∷ []) ⌝ }
+    ensures { λ _. ⌜ now (out .exit) ≡ put (now (out .entry)) 0 (modeLetter k ∷ hexDigit x ∷ goingLetter m ∷ []) ⌝ }
 {
     out[0] = mode_letter(k);
     out[1] = hex_digit(x);
-    out[2] = going_letter(going);
+    out[2] = going_letter(m);
 }
 
 // V and HH: bytes 3 to 5.
@@ -91,7 +90,7 @@ pub fn write_status(out: &mut [u8], k: u8, x: u8, m: Motor) -> usize
     requires { ⌜ x ≤ 15 ⌝ }
     ensures { λ r. ⌜ Wrote (now (out .entry)) (now (out .exit)) (statusText k x m) r ⌝ }
 {
-    write_letters(out, k, x, m.drive.going);
+    write_letters(out, k, x, m);
     write_flags(out, m);
     write_signed(&mut out[6..], 7, m.place) + 6
 }

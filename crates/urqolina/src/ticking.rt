@@ -2,7 +2,7 @@
 
 use digits::places::count_of;
 use digits::words::put_long;
-use motor::is_busy;
+use motor::is_moving;
 use pulses::tick;
 use record::Motor;
 use table::motor_at;
@@ -14,16 +14,16 @@ ghost use lib.ListN.{length};
 ghost use Rattle.digits.specs.Bytes.{put};
 ghost use Rattle.digits.specs.Words.{wordBytes};
 ghost use Rattle.record.specs.Record.{recordOf};
-ghost use Rattle.motor.specs.Sound.{busy, soundRecord};
+ghost use Rattle.motor.specs.Sound.{moving, soundRecord};
 ghost use Rattle.pulses.specs.Ticks.{tickMotor, tickCount};
 ghost use Rattle.table.specs.Layout.{tableSize, recordAt, motorAt, withMotor, withMotors};
 ghost use Rattle.table.specs.Sound.{soundTable};
 ghost use Rattle.urqolina.specs.Calls.{counts};
 
-// Ticks a driving motor, whose record a channel has: what changes is written into the record, and the count into the pulse buffer.
+// Ticks a moving motor, whose record a channel has: what changes is written into the record, and the count into the pulse buffer.
 fn drive_channel(t: &mut [u8], pulses: &mut [u8], c: u8, m: Motor)
     requires { ⌜ (length (now t) ≡ tableSize) × (length (now pulses) ≡ 64) × (c ≤ 15) ⌝ }
-    requires { ⌜ (recordAt (now t) c ≡ recordOf m) × (busy m ≡ true) ⌝ }
+    requires { ⌜ (recordAt (now t) c ≡ recordOf m) × (moving m ≡ true) ⌝ }
     ensures { λ _. ⌜ now (t .exit) ≡ withMotor (now (t .entry)) c (tickMotor m .motor) ⌝ }
     ensures { λ _. ⌜ now (pulses .exit) ≡ put (now (pulses .entry)) (4 * c) (wordBytes 4 (tickCount m)) ⌝ }
 {
@@ -37,14 +37,14 @@ fn drive_channel(t: &mut [u8], pulses: &mut [u8], c: u8, m: Motor)
     );
 }
 
-// Ticks one channel. A motor that stands gets no pulse, and its record is left unwritten: a tick leaves it as it is.
+// Ticks one channel. A motor that does not move gets no pulse, and its record is left unwritten: a tick leaves it as it is.
 fn tick_channel(t: &mut [u8], pulses: &mut [u8], c: u8)
     requires { ⌜ (length (now t) ≡ tableSize) × (length (now pulses) ≡ 64) × (c ≤ 15) × (soundRecord (recordAt (now t) c) ≡ true) ⌝ }
     ensures { λ _. ⌜ now (t .exit) ≡ withMotor (now (t .entry)) c (tickMotor (motorAt (now (t .entry)) c) .motor) ⌝ }
     ensures { λ _. ⌜ now (pulses .exit) ≡ put (now (pulses .entry)) (4 * c) (wordBytes 4 (tickCount (motorAt (now (t .entry)) c))) ⌝ }
 {
     let m = motor_at(t, c);
-    if is_busy(m) {
+    if is_moving(m) {
         drive_channel(t, pulses, c, m);
     } else {
         put_long(pulses, 4 * (c as usize), 0);

@@ -3,11 +3,10 @@ use borrow.Author.Needs.{needs}
 use native.Mathlib.Omega.{arith}
 use mathlib.Core.Path.{_∙_}
 use mathlib.Core.List.{[], _∷_}
-use lib.ListN.{replicate}
 use Rattle.digits.specs.Bytes.{joined}
 use Rattle.digits.specs.Words.{wordBytes}
 use Rattle.digits.proofs.PutLaws.{lay-put, put-whole}
-use Rattle.record.specs.Record.{settingBytes, driveBytes, recordOf}
+use Rattle.record.specs.Record.{settingBytes, driveBytes, restBytes, recordOf}
 use Rattle.record.proofs.write_motor.Statement.{statement}
 use Rattle.record.proofs.write_motor.Tie as tie
 
@@ -20,8 +19,8 @@ put-byte-requires c κs = search needs
 put-drive-requires : tie.Need-put-drive-requires
 put-drive-requires c κs = search needs
 
-put-zeros-requires : tie.Need-put-zeros-requires
-put-zeros-requires c κs = search needs
+put-rest-requires : tie.Need-put-rest-requires
+put-rest-requires c κs = search needs
 
 same-length : tie.Need-same-length
 same-length c = search needs
@@ -30,8 +29,8 @@ returns : tie.Need-returns
 unfolding joined wordBytes settingBytes recordOf
 returns c =
     let a = c .before .before .before .before .before .before .before .before .before .before .before .before .before .before .before .before .before .before .args in
-    rw (c .before .before .put-zeros .ensures, c .before .before .before .before .before .before .put-drive .ensures, c .before .before .before .before .before .before .before .before .before .before .put-byte .ensures, c .before .before .before .before .before .before .before .before .before .before .before .before .before .before .put-settings .ensures)
-    (lay-put (settingBytes (a .m) ∷ (a .m .ended ∷ []) ∷ driveBytes (a .m .drive) ∷ replicate 20 0 ∷ []) (a .b .now) 0 (omega arith)
+    rw (c .before .before .put-rest .ensures, c .before .before .before .before .before .before .put-drive .ensures, c .before .before .before .before .before .before .before .before .before .before .put-byte .ensures, c .before .before .before .before .before .before .before .before .before .before .before .before .before .before .put-settings .ensures)
+    (lay-put (settingBytes (a .m) ∷ (a .m .ended ∷ []) ∷ driveBytes (a .m .drive) ∷ restBytes (a .m) ∷ []) (a .b .now) 0 (omega arith)
     ∙ put-whole (a .b .now) (recordOf (a .m)) (omega arith))
 
 pub write-motor-spec : {M : Type 1} → statement M
@@ -41,6 +40,6 @@ write-motor-spec =
     put-settings-requires
     put-byte-requires
     put-drive-requires
-    put-zeros-requires
+    put-rest-requires
     same-length
     returns)

@@ -8,6 +8,9 @@ use Rattle.record.proofs.write_progress.Tie as tie
 put-place-requires : tie.Need-put-place-requires
 put-place-requires c κs = search needs
 
+no-drive-requires : tie.Need-no-drive-requires
+no-drive-requires c κs = search needs
+
 write-drive-requires : tie.Need-write-drive-requires
 write-drive-requires c κs = search needs
 
@@ -21,9 +24,9 @@ returns : tie.Need-returns
 unfolding progressed
 returns c =
     let d = c .before .before in
-    let i = d .before .before in
+    let i = d .before .before .before in
     let p = i .before .before .before .before in
-    rw (d .write-drive .ensures, p .put-place .ensures, eq-eqb _ 0 (i .if1 .taken))
+    rw (d .write-drive .ensures, d .before .no-drive .ensures, p .put-place .ensures, eq-eqb _ 0 (i .if1 .taken))
 
 same-length-2 : tie.Need-same-length-2
 same-length-2 c = search needs
@@ -41,6 +44,7 @@ write-progress-spec =
     tie.close
     (tie.spec
     put-place-requires
+    no-drive-requires
     write-drive-requires
     put-short-requires
     same-length

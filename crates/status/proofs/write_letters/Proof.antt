@@ -38,7 +38,7 @@ returns c =
     let a = c .before .before .before .before .args in
     let e : a .x % 16 ≡ a .x = omega arith in
     rw (c .going-letter .ensures, c .before .hex-digit .ensures, c .before .before .mode-letter .ensures, e)
-    (stores-put (modeLetter (a .k) ∷ hexDigit (a .x) ∷ goingLetter (a .going) ∷ []) (now (a .out)) 0 (omega arith))
+    (stores-put (modeLetter (a .k) ∷ hexDigit (a .x) ∷ goingLetter (a .m) ∷ []) (now (a .out)) 0 (omega arith))
 
 pub write-letters-spec : {M : Type 1} → statement M
 write-letters-spec =

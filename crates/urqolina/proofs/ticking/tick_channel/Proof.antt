@@ -2,7 +2,7 @@
 use borrow.Author.Needs.{needs}
 use mathlib.Core.Path.{_≡_, sym, _∙_}
 use mathlib.Core.Bool.{false}
-use Rattle.motor.specs.Sound.{busy}
+use Rattle.motor.specs.Sound.{moving}
 use Rattle.pulses.proofs.Laws.{stopped-given-none, stopped-count}
 use Rattle.table.specs.Layout.{motorAt}
 use Rattle.table.proofs.KeptLaws.{read-back, motor-back}
@@ -12,8 +12,8 @@ use Rattle.urqolina.proofs.ticking.tick_channel.Tie as tie
 motor-at-requires : tie.Need-motor-at-requires
 motor-at-requires c κs = search needs
 
-is-busy-requires : tie.Need-is-busy-requires
-is-busy-requires c κs = search needs
+is-moving-requires : tie.Need-is-moving-requires
+is-moving-requires c κs = search needs
 
 drive-channel-requires : tie.Need-drive-channel-requires
 drive-channel-requires c κs =
@@ -23,7 +23,7 @@ drive-channel-requires c κs =
     let a = k .before in
     let t = a .args .t .now in
     let held = read-back t (a .args .c) (a .pre .3) (λ j. k .slice-known .given j .fits) in
-    ((a .pre .0, a .pre .1, a .pre .2), (rw (m .motor-at .ensures) (sym held), sym (i .before .is-busy .ensures) ∙ i .if1 .taken))
+    ((a .pre .0, a .pre .1, a .pre .2), (rw (m .motor-at .ensures) (sym held), sym (i .before .is-moving .ensures) ∙ i .if1 .taken))
 
 mul-put-long : tie.Need-mul-put-long
 mul-put-long c = search needs
@@ -57,8 +57,8 @@ returns-2 c =
     let k = m .before .before .before in
     let a = k .before in
     let t = a .args .t .now in
-    let stands : busy (motorAt t (a .args .c)) ≡ false =
-    rw (← m .motor-at .ensures, ← i .is-busy .ensures) (p .before .before .if1 .left) in (
+    let stands : moving (motorAt t (a .args .c)) ≡ false =
+    rw (← m .motor-at .ensures, ← i .is-moving .ensures) (p .before .before .if1 .left) in (
       rw (stopped-given-none (motorAt t (a .args .c)) stands)
           (sym (motor-back t (a .args .c) (a .pre .3) (λ j. k .slice-known .given j .fits) (a .pre .0) (a .pre .2))),
       rw (p .put-long .ensures, stopped-count (motorAt t (a .args .c)) stands),
@@ -69,7 +69,7 @@ tick-channel-spec =
     tie.close
     (tie.spec
     motor-at-requires
-    is-busy-requires
+    is-moving-requires
     drive-channel-requires
     mul-put-long
     put-long-requires

@@ -1,12 +1,12 @@
--- `record::put_zeros` meets its contract. Assumes nothing.
+-- `record::put_rest` meets its contract. Assumes nothing.
 use borrow.Author.Needs.{needs}
 use native.Mathlib.Omega.{arith}
 use mathlib.Core.List.{[], _∷_}
 use Rattle.digits.specs.Bytes.{joined}
 use Rattle.digits.specs.Words.{wordBytes}
 use Rattle.digits.proofs.PutLaws.{lay-put}
-use Rattle.record.proofs.put_zeros.Statement.{statement}
-use Rattle.record.proofs.put_zeros.Tie as tie
+use Rattle.record.proofs.put_rest.Statement.{statement}
+use Rattle.record.proofs.put_rest.Tie as tie
 
 put-long-requires : tie.Need-put-long-requires
 put-long-requires c κs = search needs
@@ -33,8 +33,8 @@ returns c =
     rw (c .before .before .put-long5 .ensures, c .before .before .before .before .before .before .put-long4 .ensures, c .before .before .before .before .before .before .before .before .before .before .put-long3 .ensures, c .before .before .before .before .before .before .before .before .before .before .before .before .before .before .put-long2 .ensures, c .before .before .before .before .before .before .before .before .before .before .before .before .before .before .before .before .before .before .put-long .ensures)
     (lay-put (wordBytes 4 0 ∷ wordBytes 4 0 ∷ wordBytes 4 0 ∷ wordBytes 4 0 ∷ wordBytes 4 0 ∷ []) (a .b .now) 44 (omega arith))
 
-pub put-zeros-spec : {M : Type 1} → statement M
-put-zeros-spec =
+pub put-rest-spec : {M : Type 1} → statement M
+put-rest-spec =
     tie.close
     (tie.spec
     put-long-requires

@@ -1,0 +1,26 @@
+-- Which motors move. Nothing above opens `moving` but what computes. Assumes nothing.
+use mathlib.Core.Path.{_≡_, refl}
+use mathlib.Core.Bool.{true, false}
+use Prim.Native.Nat.{ℕ}
+use Rattle.record.specs.declared.Motor.{Motor}
+use Rattle.record.specs.Record.{withPlace, withDrive, withFraction}
+use Rattle.motor.specs.Sound.{busy, moving}
+
+-- What moves is busy, and what is not busy does not move.
+pub moving-busy : (m : Motor) → moving m ≡ true → busy m ≡ true
+unfolding moving
+moving-busy m e = e
+
+pub idle-still : (m : Motor) → busy m ≡ false → moving m ≡ false
+unfolding moving
+idle-still m e = e
+
+-- A motor that is at another place with another fraction moves if it did.
+pub carried-moves : (m : Motor) (p e n : ℕ) → moving (withDrive (withPlace m p) e (withFraction (m .drive) n)) ≡ moving m
+unfolding moving
+carried-moves m p e n = refl
+
+-- Here what is busy moves: the law that a held drive would end.
+pub busy-moves : (m : Motor) → busy m ≡ true → moving m ≡ true
+unfolding moving
+busy-moves m e = e
