@@ -18,7 +18,8 @@ use Rattle.drive.specs.declared.Verdict.the-variants.{Done}
 use Rattle.pulses.specs.declared.Ticked.{Ticked}
 use Rattle.drive.specs.Drives.{lsend, selectedSpeed, courseTo, towards, judgeStart, launched, started, endedWith, stopped, speedChanged, contacted, switchRead}
 use Rattle.pulses.specs.Ticks.{tickSpeed, tickMotor}
-use Rattle.pulses.proofs.Laws.{stopped-given-none}
+use Rattle.motor.proofs.MovingLaws.{idle-still, busy-moves}
+use Rattle.pulses.proofs.Laws.{speed-in-force, stopped-given-none}
 use Rattle.drive.proofs.Laws.{stopped-stands, stopped-again}
 use Rattle.pulses.proofs.TickLaws.{carried, never-early, drive-stays}
 use Rattle.drive.proofs.KeptSound.{towards-ahead}
@@ -183,10 +184,6 @@ read-balanced m n a b = go (busy m && blocked (m .drive .going) (contacted m n))
     go false = same-drive m (contacted m n) a refl b
 
 -- A tick books its speed and its pulses while the drive lasts.
-speed-in-force : (m : Motor) → busy m ≡ true → tickSpeed m ≡ m .drive .speed
-unfolding tickSpeed
-speed-in-force m d = rw d
-
 tick-balanced : (m : Motor) (n : ℕ) (a : Account) → n ≡ tickMotor m .pulses → Balanced m a
     → Balanced (tickMotor m .motor) (closed (tickMotor m .motor) (booked m n a ticks))
 unfolding booked
@@ -200,9 +197,9 @@ tick-balanced m n a p b =
     more = record { lasts = true; going = a .going; speed = a .speed; sum = a .sum + a .speed; pulses = a .pulses + n }
 
     go : (t : Bool) → busy m ≡ t → Balanced m' (closed m' (cond t more a))
-    go false d = same-drive m m' a (ap (λ (x : Ticked). x .motor .drive) (stopped-given-none m d)) b
+    go false d = same-drive m m' a (ap (λ (x : Ticked). x .motor .drive) (stopped-given-none m (idle-still m d))) b
     go true d =
-        let v : tickSpeed m ≡ a .speed = speed-in-force m d ∙ sym (b .speed d) in
+        let v : tickSpeed m ≡ a .speed = speed-in-force m (busy-moves m d) ∙ sym (b .speed d) in
         (record {
           lasting = refl;
           going = λ e. b .going d ∙ sym (drive-stays m e .going);

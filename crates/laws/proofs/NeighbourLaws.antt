@@ -14,6 +14,7 @@ use Rattle.record.specs.Record.{motorOf, recordOf}
 use Rattle.motor.specs.Sound.{busy}
 use Rattle.drive.specs.Drives.{stopped}
 use Rattle.pulses.specs.Ticks.{tickMotor}
+use Rattle.motor.proofs.MovingLaws.{idle-still}
 use Rattle.pulses.proofs.Laws.{stopped-given-none}
 use Rattle.drive.proofs.Laws.{stopped-again}
 use Rattle.line.specs.declared.Order.{Order}
@@ -114,7 +115,7 @@ still t line reply o flags d bytes h e q stands =
 unticked : (t p : List ℕ) (d : ℕ) → AllBytes t → d ≤ 15 → busy (motorAt t d) ≡ false → recordAt (tickCall t p .table) d ≡ recordAt t d
 unticked t p d bytes h stands =
     tick-ways (λ a. recordAt (a .table) d ≡ recordAt t d) t p (λ n l m. refl)
-    (λ s. motors-record t (λ m. tickMotor m .motor) d (sound-length t s) h ∙ rw (stopped-given-none (motorAt t d) stands) (written-back t d s bytes h))
+    (λ s. motors-record t (λ m. tickMotor m .motor) d (sound-length t s) h ∙ rw (stopped-given-none (motorAt t d) (idle-still (motorAt t d) stands)) (written-back t d s bytes h))
 
 -- An order that names channel x is nothing to the others.
 elsewhere : (y x d : ℕ) (k : Deed) → eqb y x ≡ true → (d ≡ x → ⊥) → deedIf (eqb y d) k ≡ rests

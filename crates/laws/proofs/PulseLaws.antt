@@ -19,6 +19,7 @@ use Rattle.pulses.specs.declared.Ticked.{Ticked}
 use Rattle.drive.specs.declared.Verdict.the-variants.{Done}
 use Rattle.drive.specs.Drives.{lsend, judgeStart, started, endedWith, stopped, contacted, switchRead, speedChanged}
 use Rattle.pulses.specs.Ticks.{toTarget, distanceLeft, roomLeft, given, tickMotor, tickCount}
+use Rattle.motor.proofs.MovingLaws.{idle-still, busy-moves}
 use Rattle.pulses.proofs.Laws.{given-room, given-distance, stopped-given-none}
 use Rattle.drive.proofs.Laws.{stopped-again, stopped-none}
 use Rattle.pulses.proofs.TickSound.{pulses-bound}
@@ -121,13 +122,13 @@ tick-ends m s d = go (way m)
 
     go : {t : Ticked} → Way m t → busy (t .motor) ≡ false
         → ((toTarget m ≡ true) × (t .motor .place ≡ m .drive .target) × (t .motor .ended ≡ 0)) ⊎ ((room g (t .motor) ≡ 0) × (t .motor .ended ≡ lsend))
-    go (rests e) h = absurd (false≢true (sym e ∙ d))
+    go (rests e) h = absurd (false≢true (sym h ∙ d))
     go (arrives e r) h =
         let t = reached-all m r in
         let far = leb-true 1 (ahead g (m .place) (m .drive .target)) (rw (t .0) at (sound-busy m s d .aim)) in
         inl (t .0, rw (t .1) (moved-ahead g (m .place) (m .drive .target) far), refl)
     go (ends e r u) h = inr (omega (arith, room-moved g m (given m), room-all m u), refl)
-    go (goes e r u) h = absurd (false≢true (sym h ∙ e))
+    go (goes e r u) h = absurd (false≢true (sym h ∙ d))
 
 -- An accepted start that sets off drives.
 leaves-busy : (m n : Motor) (going : ℕ) → Leaves m going n → busy n ≡ true
@@ -136,7 +137,7 @@ leaves-busy m _ going (leaves kind target h) = rw (ne-eqb going 0 (omega arith))
 -- A stopped motor's count is 0.
 stopped-count : (m : Motor) → busy m ≡ false → tickCount m ≡ 0
 unfolding tickCount countOf
-stopped-count m d = rw (stopped-given-none m d, eqb-true (m .drive .going) 0 (not-false _ d))
+stopped-count m d = rw (stopped-given-none m (idle-still m d), eqb-true (m .drive .going) 0 (not-false _ d))
 
 -- The count of a drive has no pulse against it.
 one-way : (m : Motor) → soundMotor m ≡ true → against (m .drive .going) (tickCount m) ≡ 0
@@ -153,7 +154,7 @@ one-way m s =
 capped : (m : Motor) → soundMotor m ≡ true → busy m ≡ true
     → (cwPulses (tickCount m) + ccwPulses (tickCount m) ≤ roomLeft m) × (toTarget m ≡ true → cwPulses (tickCount m) + ccwPulses (tickCount m) ≤ distanceLeft m)
 unfolding tickMotor
-capped m s d = let n = rw d at (tick-counted m s) in rw n (given-room m, given-distance m)
+capped m s d = let n = rw (busy-moves m d) at (tick-counted m s) in rw n (given-room m, given-distance m)
 
 -- A stop leaves nothing driving, and its end flags where something drove.
 stop-so : (m : Motor) (flags : ℕ) → soundMotor m ≡ true → (busy (stopped flags m) ≡ false) × (busy m ≡ true → stopped flags m .ended ≡ flags)
@@ -187,7 +188,7 @@ flags-kept m (D.stops flags) o f e n = rw (stopped-again flags m e)
 flags-kept m (D.speeds v) o (fits-speed _ moves j) e n = absurd (false≢true (sym e ∙ moves))
 flags-kept m (D.sets s) o f e n = set-flags m s
 flags-kept m (D.reads c) o f e n = read-ways m c (λ b x. x .ended ≡ m .ended) (λ q. absurd (false≢true (sym e ∙ q))) (λ q. refl) (λ b q. refl)
-flags-kept m D.ticks o f e n = ap (λ (x : Ticked). x .motor .ended) (stopped-given-none m e)
+flags-kept m D.ticks o f e n = ap (λ (x : Ticked). x .motor .ended) (stopped-given-none m (idle-still m e))
 flags-kept m D.rests o f e n = refl
 
 -- Demand 3, after the calls ks.
