@@ -10,7 +10,7 @@ use Rattle.digits.specs.Places.{origin, isPosition, moved, cw, ccw}
 use Rattle.record.specs.declared.Motor.{Motor}
 use Rattle.record.specs.Record.{standing}
 use Rattle.motor.specs.Switches.{blocked}
-use Rattle.motor.specs.Sound.{busy, soundMotor}
+use Rattle.motor.specs.Sound.{busy, moving, soundMotor}
 use Rattle.motor.proofs.SoundLaws.{sound-bounds}
 use Rattle.motor.proofs.RoomLaws.{moved-none}
 use Rattle.drive.specs.declared.Course.the-variants.{Beyond, To}
@@ -18,10 +18,10 @@ use Rattle.drive.specs.declared.Verdict.the-variants.{Done}
 use Rattle.pulses.specs.declared.Ticked.{Ticked}
 use Rattle.drive.specs.Drives.{lsend, selectedSpeed, courseTo, towards, judgeStart, launched, started, endedWith, stopped, speedChanged, contacted, switchRead}
 use Rattle.pulses.specs.Ticks.{tickSpeed, tickMotor}
-use Rattle.motor.proofs.MovingLaws.{idle-still, busy-moves}
+use Rattle.motor.proofs.MovingLaws.{moving-busy, idle-still, busy-moves, moving-drive, speed-moves}
 use Rattle.pulses.proofs.Laws.{speed-in-force, stopped-given-none}
 use Rattle.drive.proofs.Laws.{stopped-stands, stopped-again}
-use Rattle.pulses.proofs.TickLaws.{carried, never-early, drive-stays}
+use Rattle.pulses.proofs.TickLaws.{carried, never-early, drive-stays, moving-stays}
 use Rattle.drive.proofs.KeptSound.{towards-ahead}
 use Rattle.line.specs.declared.Written.{Written}
 use Rattle.line.specs.declared.Start.{Start}
@@ -31,7 +31,7 @@ use Rattle.line.specs.declared.Setting.the-variants.{Preset, SetCwLimit, SetCcw
 use Rattle.line.specs.Made.{direction, startMade}
 use Rattle.orders.specs.Settings.{directionOf, courseOf, withSetting}
 use Rattle.laws.specs.Deeds.{Deed, starts, stops, speeds, sets, reads, ticks, rests}
-use Rattle.laws.specs.Ledger.{Account, setsOff, wayOf, booked, closed}
+use Rattle.laws.specs.Ledger.{Account, newDrive, atSpeed, withTick, takesTicks, setsOff, wayOf, booked, closed}
 use Rattle.laws.proofs.DeedLaws.{performed, Fits, fits-start, fits-speed}
 
 -- a motor that has just been started in a direction: it drives, at the selected speed, with fraction 0
@@ -117,6 +117,7 @@ off-stays m (Jog going) e = absurd (false≢true (sym e))
 -- what the account and the motor have to say of each other
 pub record Balanced (m : Motor) (a : Account) : Type 0 where
   pub lasting : a .lasts ≡ busy m
+  pub counting : takesTicks a ≡ moving m
   pub going : busy m ≡ true → a .going ≡ m .drive .going
   pub speed : busy m ≡ true → a .speed ≡ m .drive .speed
   pub exact : busy m ≡ true → 1000 * a .pulses + m .drive .fraction ≡ a .sum
@@ -125,13 +126,28 @@ pub record Balanced (m : Motor) (a : Account) : Type 0 where
 -- A deed that ends the drive leaves the account and the motor balanced, and so does one that leaves the drive as it was.
 no-drive : (n : Motor) (a : Account) → n .drive ≡ standing → 1000 * a .pulses ≤ a .sum → Balanced n (closed n a)
 no-drive n a e h =
-    rw e
-    (record { lasting = and-false (a .lasts); going = λ d. absurd (false≢true d); speed = λ d. absurd (false≢true d); exact = λ d. absurd (false≢true d); most = h })
+    let still : busy n ≡ false = rw e in
+    let ended : (a .lasts && busy n) ≡ false = rw (still, and-false) in
+    record {
+      lasting = ended ∙ sym still;
+      counting = rw (ended, idle-still n still);
+      going = λ d. absurd (false≢true (sym still ∙ d));
+      speed = λ d. absurd (false≢true (sym still ∙ d));
+      exact = λ d. absurd (false≢true (sym still ∙ d));
+      most = h;
+    }
 
 same-drive : (m n : Motor) (a : Account) → n .drive ≡ m .drive → Balanced m a → Balanced n (closed n a)
 same-drive m n a e b =
-    rw e
-    (record { lasting = rw (b .lasting) (and-self (busy m)); going = b .going; speed = b .speed; exact = b .exact; most = b .most })
+    let lasts : (a .lasts && busy n) ≡ a .lasts = rw (e, b .lasting, and-self) in
+    record {
+      lasting = lasts ∙ b .lasting ∙ rw e;
+      counting = rw (lasts, b .counting, moving-drive n m e);
+      going = rw e (b .going);
+      speed = rw e (b .speed);
+      exact = rw e (b .exact);
+      most = b .most;
+    }
 
 -- No setting touches the drive.
 pub set-drive : (m : Motor) (s : Setting) → withSetting m s .drive ≡ m .drive
@@ -150,11 +166,20 @@ unfolding booked
 start-balanced m s n a o h w b = go (setsOff m s) refl
   where
     new : Account
-    new = record { lasts = true; going = wayOf m s; speed = selectedSpeed m; sum = 0; pulses = 0 }
+    new = newDrive (wayOf m s) (selectedSpeed m)
 
     launch : {l : Motor} → Leaves m (wayOf m s) l → Balanced l (closed l new)
     launch (leaves kind target g) =
-        record { lasting = refl; going = λ d. refl; speed = λ d. refl; exact = λ d. refl; most = omega arith }
+        let l = launched m (wayOf m s) kind target in
+        let off : busy l ≡ true = rw (ne-eqb (wayOf m s) 0 (omega arith)) in
+        record {
+          lasting = refl;
+          counting = rw (off, busy-moves l off);
+          going = λ d. refl;
+          speed = λ d. refl;
+          exact = λ d. refl;
+          most = omega arith;
+        }
 
     go : (t : Bool) → setsOff m s ≡ t → Balanced (started m (courseOf m s)) (closed (started m (courseOf m s)) (cond t new a))
     go true e = launch (off-leaves m s o h w e)
@@ -168,9 +193,18 @@ stop-balanced m flags a b = go (busy m) refl
     go false d = rw (stopped-again flags m d) (same-drive m m a refl b)
 
 speed-balanced : (m : Motor) (v : ℕ) (a : Account) → busy m ≡ true → Balanced m a
-    → Balanced (speedChanged m v) (closed (speedChanged m v) (record { lasts = a .lasts; going = a .going; speed = v; sum = a .sum; pulses = a .pulses }))
+    → Balanced (speedChanged m v) (closed (speedChanged m v) (atSpeed a v))
 unfolding speedChanged
-speed-balanced m v a d b = record { lasting = rw (b .lasting) (and-self (busy m)); going = b .going; speed = λ e. refl; exact = b .exact; most = b .most }
+speed-balanced m v a d b =
+    let lasts : (a .lasts && busy m) ≡ a .lasts = rw (b .lasting, and-self) in
+    record {
+      lasting = lasts ∙ b .lasting;
+      counting = rw (lasts, b .counting, speed-moves m (m .ended) v);
+      going = b .going;
+      speed = λ e. refl;
+      exact = b .exact;
+      most = b .most;
+    }
 
 read-balanced : (m : Motor) (n : ℕ) (a : Account) → Balanced m a → Balanced (switchRead m n) (closed (switchRead m n) a)
 unfolding switchRead
@@ -183,29 +217,38 @@ read-balanced m n a b = go (busy m && blocked (m .drive .going) (contacted m n))
     go true = no-drive (endedWith lsend (contacted m n)) a refl (b .most)
     go false = same-drive m (contacted m n) a refl b
 
--- A tick books its speed and its pulses while the drive lasts.
+-- After a tick of a motor that moves, it moves on or is not busy.
+tick-counting : (m : Motor) → moving m ≡ true → (busy (tickMotor m .motor) && true) ≡ moving (tickMotor m .motor)
+tick-counting m d = go (busy (tickMotor m .motor)) refl
+  where
+    go : (t : Bool) → busy (tickMotor m .motor) ≡ t → (t && true) ≡ moving (tickMotor m .motor)
+    go true e = sym (moving-stays m e ∙ d)
+    go false e = sym (idle-still (tickMotor m .motor) e)
+
+-- A tick books its speed and its pulses while the drive's ticks count, and they count while the motor moves.
 tick-balanced : (m : Motor) (n : ℕ) (a : Account) → n ≡ tickMotor m .pulses → Balanced m a
     → Balanced (tickMotor m .motor) (closed (tickMotor m .motor) (booked m n a ticks))
 unfolding booked
 tick-balanced m n a p b =
-    subst (λ (t : Bool). Balanced (tickMotor m .motor) (closed (tickMotor m .motor) (cond t (record { lasts = true; going = a .going; speed = a .speed; sum = a .sum + a .speed; pulses = a .pulses + n }) a))) (sym (b .lasting)) (go (busy m) refl)
+    subst (λ (t : Bool). Balanced m' (closed m' (cond t (withTick a n) a))) (sym (b .counting)) (go (moving m) refl)
   where
     m' : Motor
     m' = tickMotor m .motor
 
-    more : Account
-    more = record { lasts = true; going = a .going; speed = a .speed; sum = a .sum + a .speed; pulses = a .pulses + n }
-
-    go : (t : Bool) → busy m ≡ t → Balanced m' (closed m' (cond t more a))
-    go false d = same-drive m m' a (ap (λ (x : Ticked). x .motor .drive) (stopped-given-none m (idle-still m d))) b
+    go : (t : Bool) → moving m ≡ t → Balanced m' (closed m' (cond t (withTick a n) a))
+    go false d = same-drive m m' a (ap (λ (x : Ticked). x .motor .drive) (stopped-given-none m d)) b
     go true d =
-        let v : tickSpeed m ≡ a .speed = speed-in-force m (busy-moves m d) ∙ sym (b .speed d) in
+        let on : busy m ≡ true = moving-busy m d in
+        let lasts : a .lasts ≡ true = b .lasting ∙ on in
+        let counts : a .counting ≡ true = rw lasts at (b .counting ∙ d) in
+        let v : tickSpeed m ≡ a .speed = speed-in-force m d ∙ sym (b .speed on) in
         (record {
-          lasting = refl;
-          going = λ e. b .going d ∙ sym (drive-stays m e .going);
-          speed = λ e. b .speed d ∙ sym (drive-stays m e .speed);
-          exact = λ e. omega (arith, p, v, carried m e, b .exact d);
-          most = omega (arith, p, v, never-early m, b .exact d);
+          lasting = rw lasts;
+          counting = rw (lasts, counts) (tick-counting m d);
+          going = λ e. b .going on ∙ sym (drive-stays m e .going);
+          speed = λ e. b .speed on ∙ sym (drive-stays m e .speed);
+          exact = λ e. omega (arith, p, v, carried m e, b .exact on);
+          most = omega (arith, p, v, never-early m, b .exact on);
         })
 
 -- Whatever a deed does, the account stays balanced.

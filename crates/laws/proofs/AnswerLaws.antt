@@ -8,6 +8,7 @@ use borrow.Author.Tests.{le-leb}
 use Rattle.digits.specs.Bytes.{put}
 use Rattle.drive.specs.declared.Verdict.the-variants.{Done}
 use Rattle.drive.specs.Numbers.{numberOf}
+use Rattle.drive.proofs.NumberLaws.{numbered}
 use Rattle.line.specs.declared.Order.{Order}
 use Rattle.line.specs.declared.Order.the-variants.{Go, Stop, StopAll, ChangeSpeed, Set, Ask, AskHead, ForHead}
 use Rattle.line.specs.declared.Parsed.{Parsed}
@@ -15,7 +16,7 @@ use Rattle.line.specs.declared.Parsed.the-variants.{Is}
 use Rattle.line.specs.Forms.{orderOf}
 use Rattle.orders.specs.Values.{needsRemote, valueInRange}
 use Rattle.replies.specs.Replies.{echo, questionText, headText}
-use Rattle.table.specs.Layout.{mode, allReply, errors, motorAt}
+use Rattle.table.specs.Layout.{headOf, motorAt}
 use Rattle.table.specs.Sound.{soundTable}
 use Rattle.commands.specs.Judging.{meetsBusy, judgeMotor, judge}
 use Rattle.commands.specs.Changing.{changed}
@@ -27,7 +28,6 @@ use Rattle.laws.specs.Deeds.{verdict}
 use Rattle.laws.specs.ReadBack.{isSome}
 use Rattle.laws.specs.Numbers.{asks, Replies}
 use Rattle.laws.proofs.CallWays.{taken-ways}
-use Rattle.laws.proofs.Following.{done}
 use Rattle.laws.proofs.ReadBackLaws.{right-size, asked}
 
 -- An order that is no read is answered OK, or nothing.
@@ -39,27 +39,24 @@ unasked t (StopAll flags) e = refl
 unasked t (ChangeSpeed x v) e = refl
 unasked t (Set x s) e = refl
 unasked t (Ask x q) e = absurd (false≢true (sym e))
-unasked t (Mode k) e = refl
-unasked t (AllReply k) e = refl
 unasked t (AskHead q) e = absurd (false≢true (sym e))
-unasked t ClearErrors e = refl
-unasked t (ClearError n) e = refl
+unasked t (ForHead o) e = refl
 
 module _ (t line reply : List ℕ) (s : soundTable t ≡ true) (enough : 32 ≤ length reply) where
   -- what a line that is no read leaves: its number and its text, as all-reply is after it
   Told : CommandAfter → Parsed → Type 0
   Told a p =
-      let text = echo (allReply (a .table)) (verdict t p) in
+      let text = echo (headOf (a .table) .reply) (verdict t p) in
       (a .result ≡ numberOf (verdict t p) + 256 * length text) × (a .reply ≡ put reply 0 text)
 
   told-so : (p : Parsed) → isSome asks p ≡ false → Told (taken t p reply) p
   unfolding Told refused obeyed
   told-so p e =
-      taken-ways (λ a q. Told a p) t reply p (λ l h. (refl, refl))
+      taken-ways (λ a q. Told a p) t reply p (λ h. (refl, refl))
       (λ o q z. go o q z (rw q at e))
     where
       go : (o : Order) → p ≡ Is o → numberOf (judge t o) ≡ 0 → asks o ≡ false → Told (obeyed t o reply) p
-      go o q z e = rw (q, done (judge t o) z, unasked (changed t o) o e) (refl, refl)
+      go o q z e = rw (q, numbered (judge t o) .done z, unasked (changed t o) o e) (refl, refl)
 
   told-call : isSome asks (orderOf line) ≡ false → Told (commandCall t line reply) (orderOf line)
   unfolding commandCall numberOf
@@ -69,7 +66,7 @@ module _ (t line reply : List ℕ) (s : soundTable t ≡ true) (enough : 32 ≤ 
   unfolding judge needsRemote valueInRange meetsBusy judgeMotor changed answer after Told
   replies =
       record {
-        reads = λ x q e. asked t line reply (Ask x q) (questionText (mode t) x (motorAt t x) q) s enough e refl refl refl;
-        headReads = λ q e. asked t line reply (AskHead q) (headText (allReply t) (errors t) q) s enough e refl refl refl;
+        reads = λ x q e. asked t line reply (Ask x q) (questionText (headOf t .mode) x (motorAt t x) q) s enough e refl refl refl;
+        headReads = λ q e. asked t line reply (AskHead q) (headText (headOf t) q) s enough e refl refl refl;
         others = told-call;
       }

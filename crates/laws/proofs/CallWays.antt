@@ -6,9 +6,9 @@ use Prim.Native.Nat.{ℕ, _%_, _≤_}
 use native.Mathlib.Omega.{arith}
 use lib.ListN.{length}
 use lib.Dec.{eqb, leb}
-use borrow.Author.Tests.{eq-eqb, eqb-true, eqb-false}
+use borrow.Author.Tests.{eq-eqb, eqb-true}
 use Rattle.drive.specs.declared.Verdict.{Verdict}
-use Rattle.drive.specs.Numbers.{numberOf}
+use Rattle.drive.specs.Numbers.{numberOf, isRefusal}
 use Rattle.drive.specs.Drives.{switchRead}
 use Rattle.pulses.specs.Ticks.{tickMotor}
 use Rattle.line.specs.declared.Order.{Order}
@@ -20,29 +20,29 @@ use Rattle.table.specs.Sound.{soundTable}
 use Rattle.table.proofs.TableLaws.{sound-length}
 use Rattle.commands.specs.Judging.{judge}
 use Rattle.obeying.specs.Taking.{accepted, CommandAfter, refused, obeyed, taken}
-use Rattle.obeying.proofs.NumberLaws.{judge-number}
+use Rattle.obeying.proofs.NumberLaws.{refused-judged, refused-number, obeyed-number}
 use Rattle.urqolina.specs.Calls.{refusal, TableAfter, TickAfter, commandCall, readingCall, counts, tickCall}
 use Rattle.urqolina.proofs.CallLaws.{sizes-channel}
 use Rattle.laws.specs.Sequences.{command}
 use Rattle.laws.specs.Deeds.{verdict, orderPassed, orderTaken}
 
--- What holds of a line that is refused with a number from 1 to 4, and of one that is obeyed, holds of the line.
+-- What holds of a line that is refused, and of one that is obeyed, holds of the line.
 pub taken-ways : (P : CommandAfter → Parsed → Type 0) (t reply : List ℕ) (p : Parsed)
-    → (1 ≤ numberOf (verdict t p) → numberOf (verdict t p) ≤ 4 → P (refused t (verdict t p) reply) Nothing)
+    → (isRefusal (numberOf (verdict t p)) ≡ true → P (refused t (verdict t p) reply) Nothing)
     → ((o : Order) → p ≡ Is o → numberOf (judge t o) ≡ 0 → P (obeyed t o reply) (Is o))
     → P (taken t p reply) (orderPassed t p)
 unfolding taken
-taken-ways P t reply Nothing bad good = bad (unfold numberOf in omega arith) (unfold numberOf in omega arith)
+taken-ways P t reply Nothing bad good = bad (unfold numberOf in refl)
 taken-ways P t reply (Is o) bad good = go (accepted (judge t o)) refl
   where
     go : (b : Bool) → accepted (judge t o) ≡ b → P (cond b (obeyed t o reply) (refused t (judge t o) reply)) (cond b (Is o) Nothing)
     go true e = good o refl (eqb-true (numberOf (judge t o)) 0 e)
-    go false e = bad (omega (arith, eqb-false (numberOf (judge t o)) 0 e)) (judge-number t o)
+    go false e = bad (refused-judged t o e)
 
 -- The same of a command on a sound table, with the order that it carries out.
 pub sound-ways : (P : CommandAfter → Parsed → Type 0) (t line reply : List ℕ) → soundTable t ≡ true
     → P (record { result = 5; table = t; reply = reply }) Nothing
-    → (let v = verdict t (orderOf line) in 1 ≤ numberOf v → numberOf v ≤ 4 → P (refused t v reply) Nothing)
+    → (let v = verdict t (orderOf line) in isRefusal (numberOf v) ≡ true → P (refused t v reply) Nothing)
     → ((o : Order) → orderOf line ≡ Is o → numberOf (judge t o) ≡ 0 → P (obeyed t o reply) (Is o))
     → P (commandCall t line reply) (orderTaken t (command line reply))
 unfolding commandCall orderTaken numberOf
@@ -52,22 +52,26 @@ sound-ways P t line reply s small bad good = go (leb 32 (length reply)) refl
     go true e = rw (eq-eqb (length t) tableSize (sound-length t s), e, s) (taken-ways P t reply (orderOf line) bad good)
     go false e = rw (eq-eqb (length t) tableSize (sound-length t s), e) small
 
--- On any table: a call is refused with 5 or 6, or its sizes are right and the table is sound.
+-- a number that changes nothing: 5 and 6
+abbrev pub Silent : ℕ → Type 0
+Silent n = (n ≡ 0 → ⊥) × (isRefusal n ≡ false) × (n ≤ 255)
+
+-- On any table: a call is refused with such a number, or its sizes are right and the table is sound.
 ways : {A : Type 0} (P : A → Type 0) (sizes : Bool) (t : List ℕ) (left : ℕ → A) (done : A)
-    → ((n : ℕ) → 5 ≤ n → n ≤ 6 → P (left n)) → (sizes ≡ true → soundTable t ≡ true → P done)
+    → ((n : ℕ) → Silent n → P (left n)) → (sizes ≡ true → soundTable t ≡ true → P done)
     → P (cond (accepted (refusal sizes t)) done (left (numberOf (refusal sizes t))))
 unfolding numberOf
-ways P false t left done bad good = bad 5 (omega arith) (omega arith)
+ways P false t left done bad good = bad 5 (λ e. absurd (omega (arith, e)), refl, omega arith)
 ways P true t left done bad good = go (soundTable t) refl
   where
     go : (b : Bool) → soundTable t ≡ b → P (cond (accepted (refusal true t)) done (left (numberOf (refusal true t))))
     go true s = rw s (good refl s)
-    go false s = rw s (bad 6 (omega arith) (omega arith))
+    go false s = rw s (bad 6 (λ e. absurd (omega (arith, e)), refl, omega arith))
 
 -- a command, a reading and a tick
 pub command-ways : (P : CommandAfter → Type 0) (t line reply : List ℕ)
-    → ((n : ℕ) → 5 ≤ n → n ≤ 6 → P (record { result = n; table = t; reply = reply }))
-    → (soundTable t ≡ true → (v : Verdict) → 1 ≤ numberOf v → numberOf v ≤ 4 → P (refused t v reply))
+    → ((n : ℕ) → Silent n → P (record { result = n; table = t; reply = reply }))
+    → (soundTable t ≡ true → (v : Verdict) → isRefusal (numberOf v) ≡ true → P (refused t v reply))
     → (soundTable t ≡ true → (o : Order) → orderOf line ≡ Is o → P (obeyed t o reply))
     → P (commandCall t line reply)
 unfolding commandCall
@@ -76,7 +80,7 @@ command-ways P t line reply bad flag good =
     (λ e s. taken-ways (λ a p. P a) t reply (orderOf line) (flag s (verdict t (orderOf line))) (λ o q z. good s o q))
 
 pub reading-ways : (P : TableAfter → Type 0) (t : List ℕ) (c n : ℕ)
-    → ((k : ℕ) → 5 ≤ k → k ≤ 6 → P (record { result = k; table = t }))
+    → ((k : ℕ) → Silent k → P (record { result = k; table = t }))
     → (soundTable t ≡ true → c ≤ 15 → P (record { result = 0; table = withMotor t c (switchRead (motorAt t c) n) }))
     → P (readingCall t c n)
 unfolding readingCall numberOf
@@ -85,21 +89,12 @@ reading-ways P t c n bad good =
     (λ e s. good s (sizes-channel t c n e .0))
 
 pub tick-ways : (P : TickAfter → Type 0) (t p : List ℕ)
-    → ((n : ℕ) → 5 ≤ n → n ≤ 6 → P (record { result = n; table = t; pulses = p }))
+    → ((n : ℕ) → Silent n → P (record { result = n; table = t; pulses = p }))
     → (soundTable t ≡ true → P (record { result = 0; table = withMotors t (λ m. tickMotor m .motor); pulses = counts t }))
     → P (tickCall t p)
 unfolding tickCall numberOf
 tick-ways P t p bad good =
     ways P (eqb (length t) tableSize && eqb (length p) 64) t (λ n. record { result = n; table = t; pulses = p }) _ bad (λ e s. good s)
-
--- "The command's result is the number plus 256 times the reply length."
-pub refused-number : (t : List ℕ) (v : Verdict) (reply : List ℕ) → numberOf v ≤ 4 → refused t v reply .result % 256 ≡ numberOf v
-unfolding refused
-refused-number t v reply h = omega arith
-
-pub obeyed-number : (t : List ℕ) (o : Order) (reply : List ℕ) → obeyed t o reply .result % 256 ≡ 0
-unfolding obeyed numberOf
-obeyed-number t o reply = omega arith
 
 -- A line with the sizes right, on a sound table, gets the number of its verdict.
 pub line-number : (t line reply : List ℕ) → (eqb (length t) tableSize && leb 32 (length reply)) ≡ true → soundTable t ≡ true
@@ -109,5 +104,5 @@ line-number t line reply e s =
     let p = orderOf line in
     rw (e, s)
     (taken-ways (λ a q. a .result % 256 ≡ numberOf (verdict t p)) t reply p
-    (λ l h. refused-number t (verdict t p) reply h)
+    (λ h. refused-number t (verdict t p) reply)
     (λ o q z. obeyed-number t o reply ∙ sym (rw q z)))

@@ -1,21 +1,19 @@
 -- After any call on a sound table the table is sound, and each channel's motor is what the call's deed makes of it. Assumes
 -- nothing.
 use mathlib.Core.Path.{_≡_, refl, sym}
-use mathlib.Core.List.{List, [], _∷_}
+use mathlib.Core.List.{List}
 use mathlib.Core.Bool.{Bool, true, false, _&&_, _||_, not, cond, false≢true, and-true, and-false}
-use Prim.Native.Nat.{ℕ, zero, suc, _+_, _-_, _/_, _%_, _^_, _≤_, _<_}
+use Prim.Native.Nat.{ℕ, _≤_}
 use native.Mathlib.Omega.{arith}
 use lib.ListN.{length}
 use lib.Dec.{eqb, leb}
 use borrow.Author.Tests.{eq-eqb, ne-eqb, eqb-true, eqb-false, leb-true, leb-false}
-use Rattle.digits.specs.Bytes.{put}
-use Rattle.digits.specs.Words.{isSet, withBit, withoutBit}
 use Rattle.record.specs.declared.Motor.{Motor}
 use Rattle.motor.specs.Sound.{endFlagsInRange, busy}
 use Rattle.motor.proofs.SoundLaws.{and-r}
-use Rattle.drive.specs.declared.Verdict.{Verdict}
-use Rattle.drive.specs.declared.Verdict.the-variants.{Done, NoForm, Busy, OutOfRange, LocalMode, Disabled, SwitchAhead, NoRoom, NotDriving, WrongSize, NotSound}
+use Rattle.drive.specs.declared.Verdict.the-variants.{Done, Busy, OutOfRange, LocalMode, NotDriving}
 use Rattle.drive.specs.Numbers.{numberOf}
+use Rattle.drive.proofs.NumberLaws.{numbered}
 use Rattle.drive.specs.Drives.{wellAimed, started, stopped, speedChanged, switchRead}
 use Rattle.pulses.specs.Ticks.{tickMotor}
 use Rattle.pulses.proofs.TickSound.{tick-sound}
@@ -31,13 +29,15 @@ use Rattle.line.proofs.OrderLaws.{line-made}
 use Rattle.orders.specs.Values.{needsRemote, valueInRange}
 use Rattle.orders.specs.Settings.{directionOf, courseOf, withSetting}
 use Rattle.digits.specs.Places.{origin}
-use Rattle.table.specs.Layout.{tableSize, mode, errors, recordStart, recordAt, motorAt, withMotor}
+use Rattle.table.specs.Layout.{tableSize, headOf, withHead, motorAt, withMotor}
+use Rattle.table.specs.declared.head.Head.{Head}
 use Rattle.table.specs.Sound.{soundTable}
 use Rattle.table.proofs.TableLaws.{sound-length, sound-motor-at}
-use Rattle.table.proofs.PieceLaws.{part-after}
-use Rattle.table.proofs.KeptLaws.{written-motor, motor-kept, sound-head-of, head-parts, motor-sound, motors-sound, mode-sound, reply-sound, errors-sound}
+use Rattle.table.proofs.HeadLaws.{head-motor, head-sound, sound-range}
+use Rattle.table.proofs.KeptLaws.{written-motor, motor-kept, motor-sound, motors-sound}
 use Rattle.commands.specs.Judging.{meetsBusy, judgeMotor, judge}
-use Rattle.commands.specs.Changing.{changed, flagged}
+use Rattle.commands.specs.Changing.{headChanged, changed, flagged}
+use Rattle.commands.proofs.HeadOrderLaws.{flagged-range, changed-range}
 use Rattle.commands.proofs.ChannelLaws.{named, named-channel}
 use Rattle.obeying.specs.Taking.{refused, obeyed}
 use Rattle.urqolina.specs.Calls.{commandCall, readingCall, tickCall}
@@ -47,38 +47,23 @@ use Rattle.laws.proofs.PartLaws.{motors-motor}
 use Rattle.laws.proofs.CallWays.{sound-ways}
 use Rattle.laws.proofs.DeedLaws.{performed, Fits, fits-start, fits-stop, fits-speed, fits-set, fits-read, fits-tick, fits-rest, performed-sound}
 
--- Only `Done` has the number 0.
-pub done : (v : Verdict) → numberOf v ≡ 0 → v ≡ Done
-unfolding numberOf
-done Done e = refl
-done NoForm e = absurd (omega (arith, e))
-done Busy e = absurd (omega (arith, e))
-done OutOfRange e = absurd (omega (arith, e))
-done LocalMode e = absurd (omega (arith, e))
-done Disabled e = absurd (omega (arith, e))
-done SwitchAhead e = absurd (omega (arith, e))
-done NoRoom e = absurd (omega (arith, e))
-done NotDriving e = absurd (omega (arith, e))
-done WrongSize e = absurd (omega (arith, e))
-done NotSound e = absurd (omega (arith, e))
-
 -- what an order has passed when it is accepted
 pub record Passed (t : List ℕ) (o : Order) : Type 0 where
-  pub remote : (needsRemote o && eqb (mode t) 0) ≡ false
+  pub remote : (needsRemote o && eqb (headOf t .mode) 0) ≡ false
   pub value : valueInRange o ≡ true
   pub free : meetsBusy t o ≡ false
   pub motor : judgeMotor t o ≡ Done
 
 pub passed : (t : List ℕ) (o : Order) → numberOf (judge t o) ≡ 0 → Passed t o
 unfolding judge numberOf
-passed t o = go (needsRemote o && eqb (mode t) 0) refl (valueInRange o) refl (meetsBusy t o) refl
+passed t o = go (needsRemote o && eqb (headOf t .mode) 0) refl (valueInRange o) refl (meetsBusy t o) refl
   where
-    go : (r : Bool) → (needsRemote o && eqb (mode t) 0) ≡ r → (v : Bool) → valueInRange o ≡ v → (b : Bool) → meetsBusy t o ≡ b
+    go : (r : Bool) → (needsRemote o && eqb (headOf t .mode) 0) ≡ r → (v : Bool) → valueInRange o ≡ v → (b : Bool) → meetsBusy t o ≡ b
         → numberOf (cond r LocalMode (cond (not v) OutOfRange (cond b Busy (judgeMotor t o)))) ≡ 0 → Passed t o
     go true r v ev b eb e = absurd (omega (arith, e))
     go false r false v b eb e = absurd (omega (arith, e))
     go false r true v true b e = absurd (omega (arith, e))
-    go false r true v false b e = record { remote = r; value = v; free = b; motor = done (judgeMotor t o) e }
+    go false r true v false b e = record { remote = r; value = v; free = b; motor = numbered (judgeMotor t o) .done e }
 
 -- A course of a start that a line makes is well aimed.
 start-aimed : (m : Motor) (s : Start) → startMade s ≡ true → wellAimed m (courseOf m s) ≡ true
@@ -149,12 +134,9 @@ writes t x c d s h f = go (eqb x c) refl
         (record { motor = written-motor t x (performed (motorAt t x) d) (sound-length t s) h (performed-sound (motorAt t x) d (sound-motor-at t x s h) f); fits = f })
     go false e = idle t u c (motor-kept t x (performed (motorAt t x) d) (sound-length t s) h c (λ q. eqb-false x c e (sym q)))
 
--- A byte of the head written leaves every record.
-pub head-record : (t : List ℕ) (at n c : ℕ) → length t ≡ tableSize → at < 3 → recordAt (put t at (n ∷ [])) c ≡ recordAt t c
-head-record t at n c e h = part-after t (n ∷ []) at (recordStart c) 64 (omega arith) (omega arith)
-
-head-idle : (t : List ℕ) (at n c : ℕ) → soundTable t ≡ true → at < 3 → Follows t (put t at (n ∷ [])) c rests
-head-idle t at n c s h = idle t (put t at (n ∷ [])) c (unfold motorAt in rw (head-record t at n c (sound-length t s) h))
+-- A head written leaves every motor.
+head-idle : (t : List ℕ) (h : Head) (c : ℕ) → soundTable t ≡ true → Follows t (withHead t h) c rests
+head-idle t h c s = idle t (withHead t h) c (head-motor t h (sound-length t s) c)
 
 -- An accepted order: each channel follows it.
 pub order-follows : (t : List ℕ) (o : Order) (c : ℕ) → soundTable t ≡ true → c ≤ 15 → orderMade o ≡ true → numberOf (judge t o) ≡ 0
@@ -168,57 +150,17 @@ order-follows t (StopAll flags) c k h m e =
 order-follows t (ChangeSpeed x v) c k h m e = writes t x c (speeds v) k (named-channel (ChangeSpeed x v) m) (speed-fits t x v e)
 order-follows t (Set x s) c k h m e = writes t x c (sets s) k (named-channel (Set x s) m) (set-fits t x s m e)
 order-follows t (Ask x q) c k h m e = idle t t c refl
-order-follows t (Mode n) c k h m e = head-idle t 0 n c k (omega arith)
-order-follows t (AllReply n) c k h m e = head-idle t 1 n c k (omega arith)
 order-follows t (AskHead q) c k h m e = idle t t c refl
-order-follows t ClearErrors c k h m e = head-idle t 2 0 c k (omega arith)
-order-follows t (ClearError n) c k h m e = head-idle t 2 (withoutBit n (errors t)) c k (omega arith)
+order-follows t (ForHead o) c k h m e = head-idle t (headChanged (headOf t) o) c k
 
--- The error flags stay within 0 to 15, whichever of the four bits is set or cleared.
-set-bound : (k n : ℕ) → k ≤ 3 → n ≤ 15 → withBit k n ≤ 15
-unfolding withBit
-set-bound zero n h b = go (eqb (n / 1 % 2) 1) refl
-  where
-    go : (s : Bool) → eqb (n / 1 % 2) 1 ≡ s → cond s n (n + 1) ≤ 15
-    go true e = b
-    go false e = omega (arith, eqb-false (n / 1 % 2) 1 e)
-set-bound (suc zero) n h b = go (eqb (n / 2 % 2) 1) refl
-  where
-    go : (s : Bool) → eqb (n / 2 % 2) 1 ≡ s → cond s n (n + 2) ≤ 15
-    go true e = b
-    go false e = omega (arith, eqb-false (n / 2 % 2) 1 e)
-set-bound (suc (suc zero)) n h b = go (eqb (n / 4 % 2) 1) refl
-  where
-    go : (s : Bool) → eqb (n / 4 % 2) 1 ≡ s → cond s n (n + 4) ≤ 15
-    go true e = b
-    go false e = omega (arith, eqb-false (n / 4 % 2) 1 e)
-set-bound (suc (suc (suc zero))) n h b = go (eqb (n / 8 % 2) 1) refl
-  where
-    go : (s : Bool) → eqb (n / 8 % 2) 1 ≡ s → cond s n (n + 8) ≤ 15
-    go true e = b
-    go false e = omega (arith, eqb-false (n / 8 % 2) 1 e)
-set-bound (suc (suc (suc (suc k)))) n h b = absurd (omega arith)
-
-cleared-bound : (k n : ℕ) → n ≤ 15 → withoutBit k n ≤ 15
-unfolding withoutBit
-cleared-bound k n b = go (isSet k n)
-  where
-    go : (s : Bool) → cond s (n - 2 ^ k) n ≤ 15
-    go true = omega (arith, b)
-    go false = b
-
-errors-bound : (t : List ℕ) → soundTable t ≡ true → errors t ≤ 15
-errors-bound t s = head-parts t (sound-head-of t s) .errors
-
--- A refusal with a number from 1 to 4 leaves a sound table, and each motor.
-pub flagged-sound : (t : List ℕ) (v : Verdict) → soundTable t ≡ true → 1 ≤ numberOf v → numberOf v ≤ 4 → soundTable (flagged t v) ≡ true
+-- A refusal leaves a sound table, and each motor.
+pub flagged-sound : (t : List ℕ) (n : ℕ) → soundTable t ≡ true → soundTable (flagged t n) ≡ true
 unfolding flagged
-flagged-sound t v s low high =
-    errors-sound t s (withBit (numberOf v - 1) (errors t)) (set-bound (numberOf v - 1) (errors t) (omega arith) (errors-bound t s))
+flagged-sound t n s = head-sound t _ s (flagged-range (headOf t) n (sound-range t s))
 
-flagged-idle : (t : List ℕ) (v : Verdict) (c : ℕ) → soundTable t ≡ true → Follows t (flagged t v) c rests
+flagged-idle : (t : List ℕ) (n c : ℕ) → soundTable t ≡ true → Follows t (flagged t n) c rests
 unfolding flagged
-flagged-idle t v c s = head-idle t 2 (withBit (numberOf v - 1) (errors t)) c s (omega arith)
+flagged-idle t n c s = head-idle t _ c s
 
 -- An accepted order leaves a sound table.
 pub changed-sound : (t : List ℕ) (o : Order) → soundTable t ≡ true → orderMade o ≡ true → numberOf (judge t o) ≡ 0 → soundTable (changed t o) ≡ true
@@ -237,11 +179,8 @@ changed-sound t (Set x s) k m e =
     let h = named-channel (Set x s) m in
     motor-sound t x (withSetting (motorAt t x) s) k h (performed-sound (motorAt t x) (sets s) (sound-motor-at t x k h) (set-fits t x s m e))
 changed-sound t (Ask x q) k m e = k
-changed-sound t (Mode n) k m e = mode-sound t k n (leb-true n 1 m)
-changed-sound t (AllReply n) k m e = reply-sound t k n (leb-true n 1 m)
 changed-sound t (AskHead q) k m e = k
-changed-sound t ClearErrors k m e = errors-sound t k 0 (omega arith)
-changed-sound t (ClearError n) k m e = errors-sound t k (withoutBit n (errors t)) (cleared-bound n (errors t) (errors-bound t k))
+changed-sound t (ForHead o) k m e = head-sound t (headChanged (headOf t) o) k (changed-range (headOf t) o (sound-range t k) m)
 
 -- what a call leaves of a sound table
 pub record Next (t u : List ℕ) (d : ℕ → Deed) : Type 0 where
@@ -251,8 +190,8 @@ pub record Next (t u : List ℕ) (d : ℕ → Deed) : Type 0 where
 nothing-next : (t : List ℕ) → soundTable t ≡ true → Next t t (λ c. rests)
 nothing-next t s = record { sound = s; follows = λ c h. idle t t c refl }
 
-flagged-next : (t : List ℕ) (v : Verdict) → soundTable t ≡ true → 1 ≤ numberOf v → numberOf v ≤ 4 → Next t (flagged t v) (λ c. rests)
-flagged-next t v s low high = record { sound = flagged-sound t v s low high; follows = λ c h. flagged-idle t v c s }
+flagged-next : (t : List ℕ) (n : ℕ) → soundTable t ≡ true → Next t (flagged t n) (λ c. rests)
+flagged-next t n s = record { sound = flagged-sound t n s; follows = λ c h. flagged-idle t n c s }
 
 -- a command
 command-next : (t line reply : List ℕ) → soundTable t ≡ true
@@ -260,7 +199,7 @@ command-next : (t line reply : List ℕ) → soundTable t ≡ true
 unfolding refused obeyed deed
 command-next t line reply s =
     sound-ways (λ a p. Next t (a .table) (λ c. deedTaken c p)) t line reply s (nothing-next t s)
-    (flagged-next t (verdict t (orderOf line)) s)
+    (λ h. flagged-next t (numberOf (verdict t (orderOf line))) s)
     (λ o e z.
     let made : orderMade o ≡ true = rw e at (line-made line) in
     record { sound = changed-sound t o s made z; follows = λ c h. order-follows t o c s h made z })

@@ -8,7 +8,6 @@ use lib.ListN.{length, drop, drop-of-length-le}
 use lib.Dec.{eqb}
 use borrow.Author.Tests.{ne-eqb, eqb-true, eqb-false}
 use Rattle.digits.specs.Bytes.{AllBytes, part, put}
-use Rattle.digits.specs.Words.{withoutBit}
 use Rattle.record.specs.declared.Motor.{Motor}
 use Rattle.record.specs.Record.{motorOf, recordOf}
 use Rattle.motor.specs.Sound.{busy}
@@ -24,13 +23,13 @@ use Rattle.line.specs.declared.Parsed.the-variants.{Is, Nothing}
 use Rattle.line.specs.Forms.{orderOf}
 use Rattle.line.specs.Made.{orderMade}
 use Rattle.line.proofs.OrderLaws.{line-made}
-use Rattle.table.specs.Layout.{recordAt, records, errors, motorAt, withMotor, withMotors}
+use Rattle.table.specs.Layout.{headOf, recordAt, records, motorAt, withMotor, withMotors}
 use Rattle.table.specs.Sound.{soundTable}
 use Rattle.record.proofs.RoundTrip.{record-length}
 use Rattle.table.proofs.PieceLaws.{flat-length, part-before}
 use Rattle.table.proofs.TableLaws.{sound-length, sound-record-at}
 use Rattle.table.proofs.KeptLaws.{written-record, head-kept, record-kept, read-back}
-use Rattle.commands.specs.Changing.{changed, flagged}
+use Rattle.commands.specs.Changing.{headChanged, changed, flagged}
 use Rattle.commands.proofs.ChannelLaws.{named, named-channel}
 use Rattle.obeying.specs.Taking.{refused, obeyed}
 use Rattle.urqolina.specs.Calls.{commandCall, tickCall}
@@ -39,8 +38,9 @@ use Rattle.laws.specs.Deeds.{Deed, starts, stops, speeds, sets, reads, t
 use Rattle.laws.specs.Neighbours.{ofHead, Neighbours}
 use Rattle.laws.specs.Numbers.{isCommand}
 use Rattle.laws.proofs.PartLaws.{motors-record}
-use Rattle.laws.proofs.CallWays.{command-ways, reading-ways, tick-ways, refused-number}
-use Rattle.laws.proofs.Following.{head-record}
+use Rattle.laws.proofs.CallWays.{command-ways, reading-ways, tick-ways}
+use Rattle.obeying.proofs.NumberLaws.{refused-number}
+use Rattle.table.proofs.HeadLaws.{head-record}
 
 -- A sound record that is read and written back is the same bytes.
 written-back : (t : List ℕ) (d : ℕ) → soundTable t ≡ true → AllBytes t → d ≤ 15 → recordOf (motorAt t d) ≡ recordAt t d
@@ -79,11 +79,8 @@ changed-left t (StopAll f) d s made q stop = let same = stop f refl in motors-re
 changed-left t (ChangeSpeed x v) d s made q stop = motor-left t x _ d s (named-channel (ChangeSpeed x v) made) (λ e. absurd (false≢true (rw e at q)))
 changed-left t (Set x a) d s made q stop = motor-left t x _ d s (named-channel (Set x a) made) (λ e. absurd (false≢true (rw e at q)))
 changed-left t (Ask x a) d s made q stop = refl
-changed-left t (Mode k) d s made q stop = head-record t 0 k d (sound-length t s) (omega arith)
-changed-left t (AllReply k) d s made q stop = head-record t 1 k d (sound-length t s) (omega arith)
 changed-left t (AskHead a) d s made q stop = refl
-changed-left t ClearErrors d s made q stop = head-record t 2 0 d (sound-length t s) (omega arith)
-changed-left t (ClearError e) d s made q stop = head-record t 2 (withoutBit e (errors t)) d (sound-length t s) (omega arith)
+changed-left t (ForHead o) d s made q stop = head-record t (headChanged (headOf t) o) (sound-length t s) d
 
 -- the table after what a line is, were it accepted
 abbrev obeyedTable : List ℕ → Parsed → List ℕ
@@ -97,8 +94,8 @@ unfolding refused obeyed flagged
 command-left t line reply o d e q stop =
     let made : orderMade o ≡ true = rw e at (line-made line) in
     let same : soundTable t ≡ true → recordAt (obeyedTable t (orderOf line)) d ≡ recordAt t d = λ s. rw e (changed-left t o d s made q (stop s)) in
-    command-ways (λ a. recordAt (a .table) d ≡ recordAt t d) t line reply (λ n l h. refl)
-    (λ s v l h. head-record t 2 _ d (sound-length t s) (omega arith)) (λ s p f. rw f at (same s))
+    command-ways (λ a. recordAt (a .table) d ≡ recordAt t d) t line reply (λ n i. refl)
+    (λ s v h. head-record t _ (sound-length t s) d) (λ s p f. rw f at (same s))
 
 -- A line that is nothing to a channel leaves its record, and a stop leaves that of a motor that stands stopped.
 unreached : (t line reply : List ℕ) (o : Order) (d : ℕ) → orderOf line ≡ Is o → deedOf d o ≡ rests
@@ -114,7 +111,7 @@ still t line reply o flags d bytes h e q stands =
 -- A tick leaves it too.
 unticked : (t p : List ℕ) (d : ℕ) → AllBytes t → d ≤ 15 → busy (motorAt t d) ≡ false → recordAt (tickCall t p .table) d ≡ recordAt t d
 unticked t p d bytes h stands =
-    tick-ways (λ a. recordAt (a .table) d ≡ recordAt t d) t p (λ n l m. refl)
+    tick-ways (λ a. recordAt (a .table) d ≡ recordAt t d) t p (λ n i. refl)
     (λ s. motors-record t (λ m. tickMotor m .motor) d (sound-length t s) h ∙ rw (stopped-given-none (motorAt t d) (idle-still (motorAt t d) stands)) (written-back t d s bytes h))
 
 -- An order that names channel x is nothing to the others.
@@ -129,11 +126,8 @@ named-rests (StopAll flags) x d e ne = absurd (false≢true e)
 named-rests (ChangeSpeed y v) x d e ne = elsewhere y x d (speeds v) e ne
 named-rests (Set y s) x d e ne = elsewhere y x d (sets s) e ne
 named-rests (Ask y q) x d e ne = refl
-named-rests (Mode k) x d e ne = refl
-named-rests (AllReply k) x d e ne = refl
 named-rests (AskHead q) x d e ne = refl
-named-rests ClearErrors x d e ne = refl
-named-rests (ClearError n) x d e ne = refl
+named-rests (ForHead h) x d e ne = refl
 
 -- Sixteen motors changed leave the head.
 pub motors-head : (t : List ℕ) (f : Motor → Motor) (i n : ℕ) → soundTable t ≡ true → i + n ≤ 64 → part (withMotors t f) i n ≡ part t i n
@@ -155,11 +149,8 @@ changed-head t (StopAll f) i n s made q h = motors-head t (stopped f) i n s h
 changed-head t (ChangeSpeed x v) i n s made q h = head-kept t x _ (sound-length t s) (named-channel (ChangeSpeed x v) made) i n h
 changed-head t (Set x a) i n s made q h = head-kept t x _ (sound-length t s) (named-channel (Set x a) made) i n h
 changed-head t (Ask x a) i n s made q h = refl
-changed-head t (Mode k) i n s made q h = absurd (false≢true (sym q))
-changed-head t (AllReply k) i n s made q h = absurd (false≢true (sym q))
 changed-head t (AskHead a) i n s made q h = refl
-changed-head t ClearErrors i n s made q h = absurd (false≢true (sym q))
-changed-head t (ClearError e) i n s made q h = absurd (false≢true (sym q))
+changed-head t (ForHead o) i n s made q h = absurd (false≢true (sym q))
 
 head : (t line reply : List ℕ) (o : Order) → orderOf line ≡ Is o → ofHead o ≡ false → commandCall t line reply .result % 256 ≡ 0
     → part (commandCall t line reply .table) 0 64 ≡ part t 0 64
@@ -167,16 +158,16 @@ unfolding obeyed
 head t line reply o e q =
     let made : orderMade o ≡ true = rw e at (line-made line) in
     let same : soundTable t ≡ true → part (obeyedTable t (orderOf line)) 0 64 ≡ part t 0 64 = λ s. rw e (changed-head t o 0 64 s made q (omega arith)) in
-    command-ways (λ a. a .result % 256 ≡ 0 → part (a .table) 0 64 ≡ part t 0 64) t line reply (λ n l h z. refl)
-    (λ s v l h z. absurd (omega (arith, refused-number t v reply h, z))) (λ s p f z. rw f at (same s))
+    command-ways (λ a. a .result % 256 ≡ 0 → part (a .table) 0 64 ≡ part t 0 64) t line reply (λ n i z. refl)
+    (λ s v h z. absurd (false≢true (rw (sym (refused-number t v reply) ∙ z) at h))) (λ s p f z. rw f at (same s))
 
 -- Readings and ticks leave it.
 head-left : (t : List ℕ) (k : Call) → isCommand k ≡ false → part (after urqolina t k .table) 0 64 ≡ part t 0 64
 unfolding after
 head-left t (command line reply) q = absurd (false≢true (sym q))
 head-left t (reading c n) q =
-    reading-ways (λ a. part (a .table) 0 64 ≡ part t 0 64) t c n (λ k l h. refl) (λ s h. head-kept t c _ (sound-length t s) h 0 64 (omega arith))
-head-left t (tick p) q = tick-ways (λ a. part (a .table) 0 64 ≡ part t 0 64) t p (λ n l h. refl) (λ s. motors-head t (λ m. tickMotor m .motor) 0 64 s (omega arith))
+    reading-ways (λ a. part (a .table) 0 64 ≡ part t 0 64) t c n (λ k i. refl) (λ s h. head-kept t c _ (sound-length t s) h 0 64 (omega arith))
+head-left t (tick p) q = tick-ways (λ a. part (a .table) 0 64 ≡ part t 0 64) t p (λ n i. refl) (λ s. motors-head t (λ m. tickMotor m .motor) 0 64 s (omega arith))
 
 -- The bytes that the demands ask to be left.
 pub neighbours : Neighbours urqolina
@@ -186,7 +177,7 @@ neighbours = record {
   stopped = still;
   unticked = unticked;
   readings = λ t c n d ne.
-      reading-ways (λ a. recordAt (a .table) d ≡ recordAt t d) t c n (λ k l h. refl) (λ s h. record-kept t c _ (sound-length t s) h d ne);
+      reading-ways (λ a. recordAt (a .table) d ≡ recordAt t d) t c n (λ k i. refl) (λ s h. record-kept t c _ (sound-length t s) h d ne);
   head = head;
   headLeft = head-left;
 }

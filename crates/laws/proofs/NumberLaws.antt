@@ -2,27 +2,27 @@
 use mathlib.Core.Path.{_≡_, refl, sym, _∙_}
 use mathlib.Core.List.{List, []}
 use mathlib.Core.Bool.{Bool, true, false, false≢true}
-use Prim.Native.Nat.{ℕ, _-_, _%_, _≤_}
+use Prim.Native.Nat.{ℕ, _%_}
 use native.Mathlib.Omega.{arith}
 use lib.ListN.{length}
 use lib.Dec.{eqb}
 use borrow.Author.Tests.{eq-eqb, ne-eqb, eqb-true}
-use Rattle.digits.specs.Words.{withBit}
 use Rattle.drive.specs.declared.Verdict.{Verdict}
-use Rattle.drive.specs.Numbers.{numberOf}
+use Rattle.drive.specs.Numbers.{numberOf, isRefusal}
 use Rattle.line.specs.declared.Parsed.{Parsed}
 use Rattle.line.specs.declared.Parsed.the-variants.{Is, Nothing}
 use Rattle.line.specs.Forms.{orderOf}
-use Rattle.table.specs.Layout.{tableSize, errors, withErrors}
+use Rattle.table.specs.Layout.{tableSize}
 use Rattle.table.specs.Sound.{soundTable}
 use Rattle.commands.specs.Changing.{flagged}
 use Rattle.obeying.specs.Taking.{refused, obeyed}
+use Rattle.obeying.proofs.NumberLaws.{refused-number, obeyed-number}
 use Rattle.urqolina.specs.Calls.{commandCall}
 use Rattle.urqolina.proofs.Refusals.{fresh-made, fresh-refused, command-size, command-unsound, reading-size, reading-unsound, tick-size, tick-unsound, reading-accepted, tick-accepted}
 use Rattle.laws.specs.Sequences.{urqolina, Call, command, reading, tick, After, after}
 use Rattle.laws.specs.Deeds.{verdict, orderTaken}
 use Rattle.laws.specs.Numbers.{isCommand, lent, sizesRight, Numbers}
-use Rattle.laws.proofs.CallWays.{sound-ways, command-ways, reading-ways, tick-ways, refused-number, obeyed-number, line-number}
+use Rattle.laws.proofs.CallWays.{sound-ways, Silent, command-ways, reading-ways, tick-ways, line-number}
 
 -- A call with a wrong size gives 5, and one on a table that is not sound 6.
 sizes : (t : List ℕ) (k : Call) → sizesRight t k ≡ false → after urqolina t k ≡ record { result = 5; table = t; buffer = lent k }
@@ -44,41 +44,45 @@ done t (command line reply) c e s = absurd (false≢true (sym c))
 done t (reading x n) c e s = reading-accepted t x n e s
 done t (tick p) c e s = tick-accepted t p e s
 
--- where a call gives 5 or 6, that is its whole result, and the table t and the buffer b are as they were
+-- where a call gives a number that is neither 0 nor a refusal's, that is its whole result, and the table t and the buffer b are
+-- as they were
 abbrev Left : List ℕ → List ℕ → After → Type 0
-Left t b a = (n : ℕ) → 5 ≤ n → a .result % 256 ≡ n → a ≡ record { result = n; table = t; buffer = b }
+Left t b a = (n : ℕ) → (n ≡ 0 → ⊥) → isRefusal n ≡ false → a .result % 256 ≡ n → a ≡ record { result = n; table = t; buffer = b }
 
-left : (t b : List ℕ) (k : ℕ) → k ≤ 6 → Left t b (record { result = k; table = t; buffer = b })
-left t b k h n l e = let same : k ≡ n = omega arith in rw same
+left : (t b : List ℕ) (k : ℕ) → Silent k → Left t b (record { result = k; table = t; buffer = b })
+left t b k h n z r e = let same : k ≡ n = omega (arith, h .2, e) in rw same
 
--- A call that gives 5 or 6 leaves all that it was lent.
+-- No refusal has the number 0.
+refusal-some : (n : ℕ) → isRefusal n ≡ true → n ≡ 0 → ⊥
+refusal-some n h e = false≢true (rw e at h)
+
+-- So does every call.
 nothing : (t : List ℕ) (k : Call) → Left t (lent k) (after urqolina t k)
 unfolding after
 nothing t (command line reply) =
     command-ways (λ a. Left t reply (record { result = a .result; table = a .table; buffer = a .reply })) t line reply
-    (λ k l. left t reply k)
-    (λ s v l h n m e. absurd (omega (arith, refused-number t v reply h, e)))
-    (λ s o q n m e. absurd (omega (arith, obeyed-number t o reply, e)))
+    (λ k h. left t reply k h)
+    (λ s v h n z r e. absurd (false≢true (sym r ∙ (rw (sym (refused-number t v reply) ∙ e) at h))))
+    (λ s o q n z r e. absurd (z (sym e ∙ obeyed-number t o reply)))
 nothing t (reading c x) =
-    reading-ways (λ a. Left t [] (record { result = a .result; table = a .table; buffer = [] })) t c x (λ k l. left t [] k)
-    (λ s h n m e. absurd (omega (arith, e)))
+    reading-ways (λ a. Left t [] (record { result = a .result; table = a .table; buffer = [] })) t c x (λ k h. left t [] k h)
+    (λ s h n z r e. absurd (z (omega (arith, e))))
 nothing t (tick p) =
-    tick-ways (λ a. Left t p (record { result = a .result; table = a .table; buffer = a .pulses })) t p (λ k l. left t p k)
-    (λ s n m e. absurd (omega (arith, e)))
+    tick-ways (λ a. Left t p (record { result = a .result; table = a .table; buffer = a .pulses })) t p (λ k h. left t p k h)
+    (λ s n z r e. absurd (z (omega (arith, e))))
 
--- A line that gives a number from 1 to 4 sets its flag, and that is all.
-refused-flags : (t : List ℕ) (v : Verdict) (reply : List ℕ) (n : ℕ) → numberOf v ≡ n
-    → refused t v reply .table ≡ withErrors t (withBit (n - 1) (errors t))
-unfolding refused flagged
+-- A line that is refused sets its flag, and that is all.
+refused-flags : (t : List ℕ) (v : Verdict) (reply : List ℕ) (n : ℕ) → numberOf v ≡ n → refused t v reply .table ≡ flagged t n
+unfolding refused
 refused-flags t v reply n e = rw e
 
-flags : (t line reply : List ℕ) (n : ℕ) → 1 ≤ n → n ≤ 4 → commandCall t line reply .result % 256 ≡ n
-    → commandCall t line reply .table ≡ withErrors t (withBit (n - 1) (errors t))
-flags t line reply n l h =
-    command-ways (λ a. a .result % 256 ≡ n → a .table ≡ withErrors t (withBit (n - 1) (errors t))) t line reply
-    (λ k m q e. absurd (omega arith))
-    (λ s v m q e. refused-flags t v reply n (sym (refused-number t v reply q) ∙ e))
-    (λ s o q e. absurd (omega (arith, obeyed-number t o reply, e)))
+flags : (t line reply : List ℕ) (n : ℕ) → isRefusal n ≡ true → commandCall t line reply .result % 256 ≡ n
+    → commandCall t line reply .table ≡ flagged t n
+flags t line reply n h =
+    command-ways (λ a. a .result % 256 ≡ n → a .table ≡ flagged t n) t line reply
+    (λ k i e. let same : k ≡ n = omega (arith, i .2, e) in absurd (false≢true (sym (i .1) ∙ rw same h)))
+    (λ s v q e. refused-flags t v reply n (sym (refused-number t v reply) ∙ e))
+    (λ s o q e. absurd (refusal-some n h (sym e ∙ obeyed-number t o reply)))
 
 -- whether an order is carried out
 abbrev given : Parsed → Bool
@@ -91,7 +95,7 @@ decides : (t line reply : List ℕ) → soundTable t ≡ true
 decides t line reply s =
     let v = verdict t (orderOf line) in
     sound-ways (λ a p. eqb (a .result % 256) 0 ≡ given p) t line reply s refl
-    (λ l h. ne-eqb (refused t v reply .result % 256) 0 (λ z. absurd (omega (arith, refused-number t v reply h, z))))
+    (λ h. ne-eqb (refused t v reply .result % 256) 0 (λ z. refusal-some (numberOf v) h (sym (refused-number t v reply) ∙ z)))
     (λ o e z. eq-eqb (obeyed t o reply .result % 256) 0 (obeyed-number t o reply))
 
 -- The numbers that the demands ask for.

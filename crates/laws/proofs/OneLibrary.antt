@@ -4,12 +4,11 @@ use mathlib.Core.Path.{_≡_, refl, sym, _∙_}
 use mathlib.Core.List.{List}
 use mathlib.Core.Bool.{Bool, true, false}
 use Prim.Native.Nat.{ℕ, _%_, _≤_}
-use native.Mathlib.Omega.{arith}
 use lib.ListN.{length}
 use lib.Dec.{eqb, leb}
 use borrow.Author.Tests.{leb-true, eqb-true, eqb-false}
 use Rattle.motor.proofs.SoundLaws.{and-r}
-use Rattle.drive.specs.Numbers.{numberOf}
+use Rattle.drive.specs.Numbers.{numberOf, isRefusal}
 use Rattle.line.specs.declared.Question.{Question}
 use Rattle.line.specs.declared.HeadQuestion.{HeadQuestion}
 use Rattle.line.specs.declared.Order.{Order}
@@ -20,7 +19,7 @@ use Rattle.line.specs.Forms.{orderOf}
 use Rattle.table.specs.Layout.{tableSize}
 use Rattle.table.specs.Sound.{soundTable}
 use Rattle.commands.specs.Judging.{judge}
-use Rattle.obeying.proofs.NumberLaws.{judge-number}
+use Rattle.obeying.proofs.NumberLaws.{refused-judged}
 use Rattle.laws.specs.Sequences.{Library, urqolina, Call, command, reading, tick, After, after}
 use Rattle.laws.specs.ReadBack.{isSome}
 use Rattle.laws.specs.Numbers.{sizesRight, asks}
@@ -45,11 +44,8 @@ asked (StopAll flags) = unasked (StopAll flags) refl
 asked (ChangeSpeed x v) = unasked (ChangeSpeed x v) refl
 asked (Set x s) = unasked (Set x s) refl
 asked (Ask x q) = asks-channel x q
-asked (Mode k) = unasked (Mode k) refl
-asked (AllReply k) = unasked (AllReply k) refl
 asked (AskHead q) = asks-head q
-asked ClearErrors = unasked ClearErrors refl
-asked (ClearError e) = unasked (ClearError e) refl
+asked (ForHead h) = unasked (ForHead h) refl
 
 module _ (l : Library) (d : Demands l) where
   -- a line on a sound table, with the sizes right
@@ -67,9 +63,9 @@ module _ (l : Library) (d : Demands l) where
         same-after _ _ (mine .0 ∙ rw u (sym (ours .0))) u (mine .1 ∙ rw u (sym (ours .1)))
 
     -- A refusal with the number n leaves the same table.
-    refused-table : (n : ℕ) → 1 ≤ n → n ≤ 4 → l .command t line reply .result % 256 ≡ n → urqolina .command t line reply .result % 256 ≡ n
+    refused-table : (n : ℕ) → isRefusal n ≡ true → l .command t line reply .result % 256 ≡ n → urqolina .command t line reply .result % 256 ≡ n
         → l .command t line reply .table ≡ urqolina .command t line reply .table
-    refused-table n low high p q = d .numbers .flags t line reply n low high p ∙ sym (demands .numbers .flags t line reply n low high q)
+    refused-table n h p q = d .numbers .flags t line reply n h p ∙ sym (demands .numbers .flags t line reply n h q)
 
     ordered : (o : Order) → orderOf line ≡ Is o → Asked o → after l t (command line reply) ≡ after urqolina t (command line reply)
     ordered _ q (asks-channel x k) = d .replies t line reply s enough .reads x k q ∙ sym (demands .replies t line reply s enough .reads x k q)
@@ -81,14 +77,14 @@ module _ (l : Library) (d : Demands l) where
             let done = eqb-true (numberOf (judge t o)) 0 z in
             d .changes .orders t line reply o e s q done ∙ sym (demands .changes .orders t line reply o e s q done)
         go false z =
-            refused-table (numberOf (judge t o)) (omega (arith, eqb-false (numberOf (judge t o)) 0 z)) (judge-number t o)
+            refused-table (numberOf (judge t o)) (refused-judged t o z)
             (d .numbers .judged t line reply o e s q) (demands .numbers .judged t line reply o e s q)
 
     lined : (p : Parsed) → orderOf line ≡ p → after l t (command line reply) ≡ after urqolina t (command line reply)
     lined (Is o) q = ordered o q (asked o)
     lined Nothing q =
         from-table (rw q refl)
-        (refused-table 1 (omega arith) (omega arith) (d .numbers .formless t line reply e s q) (demands .numbers .formless t line reply e s q))
+        (refused-table 1 refl (d .numbers .formless t line reply e s q) (demands .numbers .formless t line reply e s q))
 
   -- a call on a sound table, with the sizes right
   accepted : (t : List ℕ) (k : Call) → sizesRight t k ≡ true → soundTable t ≡ true → after l t k ≡ after urqolina t k

@@ -5,7 +5,6 @@ use mathlib.Core.Bool.{Bool, true, false, _&&_, cond, false≢true}
 use mathlib.Core.Logic.{_⊎_, inl, inr, ⊎-elim}
 use Prim.Native.Nat.{ℕ, _+_, _≤_}
 use native.Mathlib.Omega.{arith}
-use lib.ListN.{length}
 use lib.Dec.{eqb}
 use borrow.Author.Tests.{leb-true, ne-eqb, eqb-true, not-false}
 use Rattle.digits.specs.Places.{ahead, countOf, cw}
@@ -20,7 +19,7 @@ use Rattle.drive.specs.declared.Verdict.the-variants.{Done}
 use Rattle.drive.specs.Drives.{lsend, judgeStart, started, endedWith, stopped, contacted, switchRead, speedChanged}
 use Rattle.pulses.specs.Ticks.{toTarget, distanceLeft, roomLeft, given, tickMotor, tickCount}
 use Rattle.motor.proofs.MovingLaws.{idle-still, busy-moves}
-use Rattle.pulses.proofs.Laws.{given-room, given-distance, stopped-given-none}
+use Rattle.pulses.proofs.Laws.{given-room, given-distance, stopped-given-none, stopped-count}
 use Rattle.drive.proofs.Laws.{stopped-again, stopped-none}
 use Rattle.pulses.proofs.TickSound.{pulses-bound}
 use Rattle.pulses.proofs.TickLaws.{Way, rests, arrives, ends, goes, way, reached-all, room-all}
@@ -29,11 +28,11 @@ use Rattle.line.specs.declared.Setting.{Setting}
 use Rattle.line.specs.declared.Setting.the-variants.{Preset, SetCwLimit, SetCcwLimit, Select, SetSpeed, SetSwitches, SetMotor}
 use Rattle.line.specs.Made.{startMade}
 use Rattle.orders.specs.Settings.{courseOf, withSetting}
-use Rattle.table.specs.Layout.{tableSize, motorAt, freshTable}
+use Rattle.table.specs.Layout.{motorAt, freshTable}
 use Rattle.table.specs.Sound.{soundTable}
 use Rattle.table.proofs.KeptLaws.{fresh-sound}
 use Rattle.table.proofs.TableLaws.{sound-motor-at}
-use Rattle.laws.specs.Sequences.{urqolina, Call, after, run, ran}
+use Rattle.laws.specs.Sequences.{urqolina, Call, after, run, Beginning, fromFresh, ran}
 use Rattle.laws.specs.Deeds as D
 use Rattle.laws.specs.Deeds.{Deed, deed}
 use Rattle.laws.specs.Ledger.{countAt, cwPulses, ccwPulses, against, wayOf, Account, noDrive, setsOff, entered, account, Travel, noTravel, travelled, travel}
@@ -79,7 +78,7 @@ module _ (c : ℕ) (on : c ≤ 15) where
   unfolding freshMotor
   fresh-balanced =
       rw (fresh-motor c on)
-      (record { lasting = refl; going = λ d. absurd (false≢true d); speed = λ d. absurd (false≢true d); exact = λ d. absurd (false≢true d); most = omega arith })
+      (record { lasting = refl; counting = sym (idle-still freshMotor refl); going = λ d. absurd (false≢true d); speed = λ d. absurd (false≢true d); exact = λ d. absurd (false≢true d); most = omega arith })
 
   fresh-kept : Kept (motorAt freshTable c) noTravel
   unfolding freshMotor
@@ -134,11 +133,6 @@ tick-ends m s d = go (way m)
 leaves-busy : (m n : Motor) (going : ℕ) → Leaves m going n → busy n ≡ true
 leaves-busy m _ going (leaves kind target h) = rw (ne-eqb going 0 (omega arith))
 
--- A stopped motor's count is 0.
-stopped-count : (m : Motor) → busy m ≡ false → tickCount m ≡ 0
-unfolding tickCount countOf
-stopped-count m d = rw (stopped-given-none m (idle-still m d), eqb-true (m .drive .going) 0 (not-false _ d))
-
 -- The count of a drive has no pulse against it.
 one-way : (m : Motor) → soundMotor m ≡ true → against (m .drive .going) (tickCount m) ≡ 0
 unfolding tickCount
@@ -192,12 +186,12 @@ flags-kept m D.ticks o f e n = ap (λ (x : Ticked). x .motor .ended) (stopped-gi
 flags-kept m D.rests o f e n = refl
 
 -- Demand 3, after the calls ks.
-module _ (b : List ℕ) (whole : length b ≡ tableSize) (c : ℕ) (on : c ≤ 15) (ks : List Call) where
+module _ (b : Beginning) (c : ℕ) (on : c ≤ 15) (ks : List Call) where
   abbrev t : List ℕ
   t = ran urqolina b ks
 
   s : soundTable t ≡ true
-  s = ran-sound b whole ks
+  s = ran-sound b ks
 
   abbrev m : Motor
   m = motorAt t c
@@ -205,11 +199,11 @@ module _ (b : List ℕ) (whole : length b ≡ tableSize) (c : ℕ) (on : c ≤ 1
   o : soundMotor m ≡ true
   o = sound-motor-at t c s on
 
-  balanced : Balanced m (account urqolina c (urqolina .fresh b .table) noDrive ks)
-  balanced = rw (made-fresh b whole) (run-balanced c on freshTable ks noDrive fresh-sound (fresh-balanced c on))
+  balanced : Balanced m (account urqolina c (fromFresh urqolina b) noDrive ks)
+  balanced = rw (made-fresh b) (run-balanced c on freshTable ks noDrive fresh-sound (fresh-balanced c on))
 
-  kept : Kept m (travel urqolina c (urqolina .fresh b .table) noTravel ks)
-  kept = rw (made-fresh b whole) (run-kept c on freshTable ks noTravel fresh-sound (fresh-kept c on))
+  kept : Kept m (travel urqolina c (fromFresh urqolina b) noTravel ks)
+  kept = rw (made-fresh b) (run-kept c on freshTable ks noTravel fresh-sound (fresh-kept c on))
 
   -- what is known of the motor after a call that is the deed d
   followed : (k : Call) (d : Deed) → deed c t k ≡ d → Follows t (after urqolina t k .table) c d
@@ -259,6 +253,7 @@ module _ (b : List ℕ) (whole : length b ≡ tableSize) (c : ℕ) (on : c ≤ 1
         neverLess = λ e. omega (arith, balanced .exact (sym (balanced .lasting) ∙ e), sound-bounds m o .fraction);
         starting = starting;
         lasting = balanced .lasting;
+        counting = balanced .counting;
         speed = λ e. balanced .speed (sym (balanced .lasting) ∙ e);
         oneWay = λ e p long. rw (balanced .going (sym (balanced .lasting) ∙ e), count-read t p c s long on) (one-way m o);
         ending = ending;
@@ -266,6 +261,6 @@ module _ (b : List ℕ) (whole : length b ≡ tableSize) (c : ℕ) (on : c ≤ 1
         switching = switching;
         within = λ d p long. rw (count-read t p c s long on) (capped m o d);
         flags = flags;
-        none = λ d p long. rw (count-read t p c s long on) (stopped-count m d);
+        none = λ d p long. rw (count-read t p c s long on) (stopped-count m (sym (balanced .counting) ∙ d));
         position = kept;
       }

@@ -2,25 +2,26 @@
 use mathlib.Core.Path.{_≡_, refl, sym}
 use mathlib.Core.List.{List, [], _∷_}
 use mathlib.Core.Bool.{Bool, true, false, not, cond, false≢true}
-use Prim.Native.Nat.{ℕ, _*_, _-_, _≤_}
+use Prim.Native.Nat.{ℕ, zero, suc, _*_, _≤_}
 use native.Mathlib.Nat.{zero-add}
 use native.Mathlib.Omega.{arith}
 use lib.ListN.{length, getD}
 use lib.Dec.{eqb}
-use borrow.Author.Tests.{eq-eqb, eqb-true, eqb-false, le-leb, not-true}
-use Rattle.digits.specs.Bytes.{part, put}
-use Rattle.digits.specs.Words.{word, withBit, withoutBit}
+use borrow.Author.Tests.{eq-eqb, le-leb, not-true}
+use Rattle.digits.specs.Bytes.{put}
+use Rattle.digits.specs.Words.{withBit, withoutBit}
 use Rattle.text.specs.Text.{bytes}
 use Rattle.record.specs.declared.Motor.{Motor}
 use Rattle.motor.proofs.SoundLaws.{and-l, and-r}
-use Rattle.drive.specs.declared.Verdict.{Verdict}
 use Rattle.drive.specs.declared.Verdict.the-variants.{Done}
-use Rattle.drive.specs.Numbers.{numberOf}
+use Rattle.drive.specs.Numbers.{numberOf, flagBit}
 use Rattle.drive.specs.Drives.{switchRead}
 use Rattle.pulses.specs.Ticks.{tickMotor}
 use Rattle.line.specs.declared.Setting.{Setting}
 use Rattle.line.specs.declared.Question.the-variants.{AskStatus}
 use Rattle.line.specs.declared.HeadQuestion.the-variants.{AskAllReply}
+use Rattle.line.specs.declared.HeadOrder.{HeadOrder}
+use Rattle.line.specs.declared.HeadOrder.the-variants.{Mode, AllReply, ClearErrors, ClearError}
 use Rattle.line.specs.declared.Order.{Order}
 use Rattle.line.specs.declared.Order.the-variants.{Go, Stop, StopAll, ChangeSpeed, Set, Ask, AskHead, ForHead}
 use Rattle.line.specs.declared.Parsed.{Parsed}
@@ -29,23 +30,24 @@ use Rattle.line.specs.Forms.{orderOf}
 use Rattle.line.specs.Made.{onBench, settingMade, orderMade}
 use Rattle.line.proofs.OrderLaws.{line-made}
 use Rattle.orders.specs.Values.{needsRemote, settingInRange, valueInRange}
-use Rattle.replies.specs.Replies.{questionText, headText}
+use Rattle.replies.specs.Replies.{questionText, allReplyText, headText}
 use Rattle.status.specs.Status.{modeLetter, statusText}
-use Rattle.table.specs.Layout.{tableSize, mode, allReply, errors, withErrors, motorAt, withMotor, withMotors}
+use Rattle.table.specs.Layout.{tableSize, headOf, withHead, withErrors, motorAt, withMotor, withMotors}
+use Rattle.table.specs.declared.head.Head.{Head}
 use Rattle.table.specs.Sound.{soundTable}
 use Rattle.table.proofs.TableLaws.{sound-length, sound-motor-at}
-use Rattle.table.proofs.PieceLaws.{part-same, part-before, part-after}
+use Rattle.table.proofs.HeadLaws.{same-head, head-back}
 use Rattle.table.proofs.KeptLaws.{head-kept}
 use Rattle.commands.specs.Judging.{meetsBusy, judgeMotor, judge}
-use Rattle.commands.specs.Changing.{changed, flagged}
+use Rattle.commands.specs.Changing.{headChanged, changed, flagged}
 use Rattle.commands.proofs.ChannelLaws.{named, named-channel}
 use Rattle.commands.specs.Answers.{answer}
 use Rattle.obeying.specs.Taking.{refused, obeyed, taken}
 use Rattle.urqolina.specs.Calls.{commandCall}
-use Rattle.laws.specs.Sequences.{urqolina, Call, command, reading, tick, after, run, ran, never}
+use Rattle.laws.specs.Sequences.{urqolina, Call, command, reading, tick, after, run, Beginning, ran, never}
 use Rattle.laws.specs.Deeds.{verdict, sets, orderTaken, deedOf, deed}
 use Rattle.laws.specs.Ledger.{countAt}
-use Rattle.laws.specs.ReadBack.{questionFor, textFor, changes, modeOrder, replyOrder, isSome, ReadsBack}
+use Rattle.laws.specs.ReadBack.{questionFor, textFor, changes, headTopic, writesField, isSome, changesHead, ReadsBack}
 use Rattle.laws.specs.Neighbours.{ofHead}
 use Rattle.laws.proofs.DeedLaws.{Fits, fits-set, performed}
 use Rattle.laws.proofs.Following.{Follows, order-follows, next}
@@ -73,7 +75,7 @@ right-size t s = eq-eqb (length t) tableSize (sound-length t s)
 -- what a call does to the table, and the order that it takes
 data Outcome (t : List ℕ) : Parsed → List ℕ → Type 0 where
   leaves : Outcome t Nothing t
-  refuses : (v : Verdict) → Outcome t Nothing (flagged t v)
+  refuses : (n : ℕ) → Outcome t Nothing (flagged t n)
   obeys : (o : Order) → orderMade o ≡ true → numberOf (judge t o) ≡ 0 → Outcome t (Is o) (changed t o)
   motor : (x : ℕ) (m : Motor) → x ≤ 15 → Outcome t Nothing (withMotor t x m)
   motors : (f : Motor → Motor) → Outcome t Nothing (withMotors t f)
@@ -82,9 +84,9 @@ data Outcome (t : List ℕ) : Parsed → List ℕ → Type 0 where
 outcome : (t : List ℕ) (k : Call) → soundTable t ≡ true → Outcome t (orderTaken t k) (after urqolina t k .table)
 unfolding orderTaken after refused obeyed
 outcome t (command line reply) s =
-    sound-ways (λ a p. Outcome t p (a .table)) t line reply s leaves (λ l h. refuses (verdict t (orderOf line))) (λ o e z. obeys o (rw e at (line-made line)) z)
-outcome t (reading x n) s = reading-ways (λ a. Outcome t Nothing (a .table)) t x n (λ k l h. leaves) (λ o h. motor x (switchRead (motorAt t x) n) h)
-outcome t (tick p) s = tick-ways (λ a. Outcome t Nothing (a .table)) t p (λ k l h. leaves) (λ o. motors (λ m. tickMotor m .motor))
+    sound-ways (λ a p. Outcome t p (a .table)) t line reply s leaves (λ h. refuses (numberOf (verdict t (orderOf line)))) (λ o e z. obeys o (rw e at (line-made line)) z)
+outcome t (reading x n) s = reading-ways (λ a. Outcome t Nothing (a .table)) t x n (λ k i. leaves) (λ o h. motor x (switchRead (motorAt t x) n) h)
+outcome t (tick p) s = tick-ways (λ a. Outcome t Nothing (a .table)) t p (λ k i. leaves) (λ o. motors (λ m. tickMotor m .motor))
 
 -- what is known of an order that a call takes
 record Takes (t u : List ℕ) (o : Order) : Type 0 where
@@ -101,7 +103,7 @@ takes t k o s = go (outcome t k s)
   where
     go : {p : Parsed} {u : List ℕ} → Outcome t p u → p ≡ Is o → Takes t u o
     go leaves e = no-order e
-    go (refuses v) e = no-order e
+    go (refuses n) e = no-order e
     go (obeys q m j) e = record { made = cc; judged = cc; table = cc }
     go (motor x m h) e = no-order e
     go (motors f) e = no-order e
@@ -156,88 +158,84 @@ told-on u later x s o h w = run-keeps (λ t. Tells (motorAt t x) s) (changes urq
         rw (next t k o .follows x (w .channel) .motor)
         (performed-tells (motorAt t x) (deed x t k) (countAt (after urqolina t k .buffer) x) s (sound-motor-at t x o (w .channel)) count (w .made) e told)
 
--- whether an order writes byte i of the head: 0 is the mode, 1 all-reply
-abbrev writesByte : ℕ → Order → Bool
-writesByte i o = cond (eqb i 0) (modeOrder o) (replyOrder o)
+-- the fields of the head, numbered as their orders are: 0 the mode, 1 all-reply, 2 the error flags
+abbrev field : ℕ → Head → ℕ
+field i h = cond (eqb i 0) (h .mode) (cond (eqb i 1) (h .reply) (h .errors))
 
-abbrev changesByte : ℕ → List ℕ → Call → Bool
-changesByte i t k = isSome (writesByte i) (orderTaken t k)
+-- Error flags that are written leave the fields before them.
+errors-field : (h : Head) (n i : ℕ) → i ≤ 1 → field i (withErrors h n) ≡ field i h
+errors-field h n zero l = refl
+errors-field h n (suc zero) l = refl
+errors-field h n (suc (suc i)) l = absurd (omega arith)
 
--- An order of the first of the two bytes that leaves byte i, and one of the second: i is the other.
-first : (b : Bool) → cond b true false ≡ false → b ≡ false
-first true e = e
-first false e = refl
+-- An order of the head leaves every field but its own.
+other-field : (h : Head) (o : HeadOrder) (i : ℕ) → i ≤ 1 → eqb (headTopic o) i ≡ false → field i (headChanged h o) ≡ field i h
+unfolding headChanged headTopic
+other-field h (Mode n) zero l e = absurd (false≢true (sym e))
+other-field h (Mode n) (suc zero) l e = refl
+other-field h (Mode n) (suc (suc i)) l e = absurd (omega arith)
+other-field h (AllReply n) zero l e = refl
+other-field h (AllReply n) (suc zero) l e = absurd (false≢true (sym e))
+other-field h (AllReply n) (suc (suc i)) l e = absurd (omega arith)
+other-field h ClearErrors i l e = errors-field h 0 i l
+other-field h (ClearError n) i l e = errors-field h (withoutBit n (h .errors)) i l
 
-second : (b : Bool) → cond b false true ≡ false → b ≡ true
-second true e = refl
-second false e = sym e
-
--- Byte i is left by every call that takes no order to write it.
-module _ (t : List ℕ) (s : soundTable t ≡ true) (i : ℕ) (h : i ≤ 1) where
+-- A field of the head is left by every call that takes no order to write it.
+module _ (t : List ℕ) (s : soundTable t ≡ true) (i : ℕ) (l : i ≤ 1) where
   whole : length t ≡ tableSize
   whole = sound-length t s
 
-  errors-byte : (n : ℕ) → part (withErrors t n) i 1 ≡ part t i 1
-  errors-byte n = let e = whole in part-before t (n ∷ []) 2 i 1 (omega arith) (omega arith)
+  -- a head that is written
+  written : (h : Head) → field i h ≡ field i (headOf t) → field i (headOf (withHead t h)) ≡ field i (headOf t)
+  written h e = rw (head-back t h whole) e
 
-  head-byte : (o : Order) → ofHead o ≡ true → writesByte i o ≡ false → part (changed t o) i 1 ≡ part t i 1
-  unfolding changed ofHead modeOrder replyOrder
-  head-byte (Go x r) q e = absurd (false≢true q)
-  head-byte (Stop x flags) q e = absurd (false≢true q)
-  head-byte (StopAll flags) q e = absurd (false≢true q)
-  head-byte (ChangeSpeed x v) q e = absurd (false≢true q)
-  head-byte (Set x r) q e = absurd (false≢true q)
-  head-byte (Ask x r) q e = refl
-  head-byte (Mode n) q e = let z = whole in part-after t (n ∷ []) 0 i 1 (omega (arith, eqb-false i 0 (first (eqb i 0) e))) (omega arith)
-  head-byte (AllReply n) q e = let z = whole in part-before t (n ∷ []) 1 i 1 (omega (arith, eqb-true i 0 (second (eqb i 0) e))) (omega arith)
-  head-byte (AskHead r) q e = refl
-  head-byte ClearErrors q e = errors-byte 0
-  head-byte (ClearError n) q e = errors-byte (withoutBit n (errors t))
+  -- an order that is not of the head
+  unwritten : (o : Order) → orderMade o ≡ true → ofHead o ≡ false → field i (headOf (changed t o)) ≡ field i (headOf t)
+  unwritten o made q = rw (same-head t (changed t o) (λ j n h. changed-head t o j n s made q h))
 
-  order-byte : (o : Order) → orderMade o ≡ true → writesByte i o ≡ false → part (changed t o) i 1 ≡ part t i 1
-  order-byte o made = go (ofHead o) refl
+  order-field : (o : Order) → orderMade o ≡ true → writesField i o ≡ false → field i (headOf (changed t o)) ≡ field i (headOf t)
+  unfolding ofHead writesField
+  order-field (Go x r) made e = unwritten (Go x r) made refl
+  order-field (Stop x flags) made e = unwritten (Stop x flags) made refl
+  order-field (StopAll flags) made e = unwritten (StopAll flags) made refl
+  order-field (ChangeSpeed x v) made e = unwritten (ChangeSpeed x v) made refl
+  order-field (Set x r) made e = unwritten (Set x r) made refl
+  order-field (Ask x r) made e = unwritten (Ask x r) made refl
+  order-field (AskHead r) made e = unwritten (AskHead r) made refl
+  order-field (ForHead o) made e = unfold changed in written (headChanged (headOf t) o) (other-field (headOf t) o i l e)
+
+  call-field : (k : Call) → changesHead i t k ≡ false → field i (headOf (after urqolina t k .table)) ≡ field i (headOf t)
+  call-field k = go (outcome t k s)
     where
-      go : (b : Bool) → ofHead o ≡ b → writesByte i o ≡ false → part (changed t o) i 1 ≡ part t i 1
-      go true e w = head-byte o e w
-      go false e w = changed-head t o i 1 s made e (omega arith)
-
-  call-byte : (k : Call) → changesByte i t k ≡ false → part (after urqolina t k .table) i 1 ≡ part t i 1
-  call-byte k = go (outcome t k s)
-    where
-      go : {p : Parsed} {u : List ℕ} → Outcome t p u → isSome (writesByte i) p ≡ false → part u i 1 ≡ part t i 1
+      go : {p : Parsed} {u : List ℕ} → Outcome t p u → isSome (writesField i) p ≡ false → field i (headOf u) ≡ field i (headOf t)
       go leaves e = refl
-      go (refuses v) e = unfold flagged in errors-byte (withBit (numberOf v - 1) (errors t))
-      go (obeys o m j) e = order-byte o m e
-      go (motor x m l) e = head-kept t x m whole l i 1 (omega arith)
-      go (motors f) e = motors-head t f i 1 s (omega arith)
-
-  -- A byte that is written is there.
-  byte-written : (n : ℕ) → word (part (put t i (n ∷ [])) i 1) ≡ n
-  unfolding word
-  byte-written n = let e = whole in rw (part-same t (n ∷ []) i 1 refl (omega arith)) (omega arith)
+      go (refuses n) e = unfold flagged in written _ (errors-field (headOf t) (withBit (flagBit n) (headOf t .errors)) i l)
+      go (obeys o m j) e = order-field o m e
+      go (motor x m h) e = rw (same-head t (withMotor t x m) (head-kept t x m whole h))
+      go (motors f) e = rw (same-head t (withMotors t f) (λ j n h. motors-head t f j n s h))
 
 -- So it stays over every sequence that takes no such order.
-byte-on : (u : List ℕ) (later : List Call) (i n : ℕ) → i ≤ 1 → soundTable u ≡ true → never urqolina (changesByte i) u later ≡ true
-    → word (part u i 1) ≡ n → word (part (run urqolina u later) i 1) ≡ n
-byte-on u later i n h o e w =
-    run-keeps (λ t. word (part t i 1) ≡ n) (changesByte i) (λ t k s c p. rw (call-byte t s i h k c) p) u later o e w
+field-on : (u : List ℕ) (later : List Call) (i n : ℕ) → i ≤ 1 → soundTable u ≡ true → never urqolina (changesHead i) u later ≡ true
+    → field i (headOf u) ≡ n → field i (headOf (run urqolina u later)) ≡ n
+field-on u later i n h o e w =
+    run-keeps (λ t. field i (headOf t) ≡ n) (changesHead i) (λ t k s c p. rw (call-field t s i h k c) p) u later o e w
 
 -- The demand: what was set is answered, whatever came before, and whatever came since that did not change it.
-pub reads-back : (b : List ℕ) → length b ≡ tableSize → (ks : List Call) (k : Call) (later : List Call) (line reply : List ℕ) (enough : 32 ≤ length reply)
+pub reads-back : (b : Beginning) (ks : List Call) (k : Call) (later : List Call) (line reply : List ℕ) (enough : 32 ≤ length reply)
     → ReadsBack urqolina b ks k later line reply enough
-unfolding judge needsRemote valueInRange meetsBusy judgeMotor changed answer headText
-reads-back b size ks k later line reply enough =
+unfolding judge needsRemote valueInRange meetsBusy judgeMotor changed headChanged answer headText allReplyText
+reads-back b ks k later line reply enough =
     record {
       setting = λ x s e h q.
-          read (Ask x (questionFor s)) (textFor s) q refl refl (told-on u later x s sound h (settles t k x s start e) (mode v) x);
+          read (Ask x (questionFor s)) (textFor s) q refl refl (told-on u later x s sound h (settles t k x s start e) (headOf v .mode) x);
       held = λ x s e h n. told-on u later x s sound h (settles t k x s start e) n x;
-      replyHeld = λ n e h. byte 1 (AllReply n) n (omega arith) e refl h;
-      modeHeld = λ n e h. byte 0 (Mode n) n (omega arith) e refl h;
+      replyHeld = λ n e h. kept 1 (AllReply n) n (omega arith) e refl h;
+      modeHeld = λ n e h. kept 0 (Mode n) n (omega arith) e refl h;
       allReply = λ n e h q.
-          read (AskHead AskAllReply) (cond (eqb n 1) (bytes "EN") (bytes "DS")) q refl refl (rw (byte 1 (AllReply n) n (omega arith) e refl h));
+          read (AskHead AskAllReply) (cond (eqb n 1) (bytes "EN") (bytes "DS")) q refl refl (rw (kept 1 (AllReply n) n (omega arith) e refl h));
       mode = λ n x e h q.
           let m = motorAt v x in
-          rw (read (Ask x AskStatus) (questionText (mode v) x m AskStatus) q refl refl refl, status-letter reply (mode v) x m, byte 0 (Mode n) n (omega arith) e refl h);
+          rw (read (Ask x AskStatus) (questionText (headOf v .mode) x m AskStatus) q refl refl refl, status-letter reply (headOf v .mode) x m, kept 0 (Mode n) n (omega arith) e refl h);
     }
   where
     t : List ℕ
@@ -250,7 +248,7 @@ reads-back b size ks k later line reply enough =
     v = run urqolina u later
 
     start : soundTable t ≡ true
-    start = ran-sound b size ks
+    start = ran-sound b ks
 
     sound : soundTable u ≡ true
     sound = next t k start .sound
@@ -259,6 +257,7 @@ reads-back b size ks k later line reply enough =
         → after urqolina v (command line reply) ≡ record { result = 256 * length text; table = v; buffer = put reply 0 text }
     read o text q j c a = asked v line reply o text (run-sound u later sound) enough q j c a
 
-    byte : (i : ℕ) (o : Order) (n : ℕ) → i ≤ 1 → orderTaken t k ≡ Is o → changed t o ≡ put t i (n ∷ [])
-        → never urqolina (changesByte i) u later ≡ true → word (part v i 1) ≡ n
-    byte i o n h e c w = byte-on u later i n h sound w (rw (takes t k o start e .table, c) (byte-written t start i h n))
+    kept : (i : ℕ) (o : HeadOrder) (n : ℕ) → i ≤ 1 → orderTaken t k ≡ Is (ForHead o) → field i (headChanged (headOf t) o) ≡ n
+        → never urqolina (changesHead i) u later ≡ true → field i (headOf v) ≡ n
+    kept i o n h e c w =
+        field-on u later i n h sound w (rw (takes t k (ForHead o) start e .table, head-back t (headChanged (headOf t) o) (sound-length t start)) c)

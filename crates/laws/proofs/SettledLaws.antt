@@ -4,7 +4,6 @@ use mathlib.Core.Path.{_≡_, refl}
 use mathlib.Core.List.{List, [], _∷_}
 use mathlib.Core.Bool.{Bool, true, false, _&&_, cond}
 use Prim.Native.Nat.{ℕ, _≤_}
-use lib.ListN.{length}
 use Rattle.record.specs.declared.Motor.{Motor}
 use Rattle.record.specs.Record.{freshMotor}
 use Rattle.motor.specs.Switches.{blocked}
@@ -17,11 +16,10 @@ use Rattle.pulses.proofs.TickLaws.{SameSettings, settings-stay}
 use Rattle.line.specs.declared.Setting.{Setting}
 use Rattle.line.specs.declared.Setting.the-variants.{Preset, SetCwLimit, SetCcwLimit, Select, SetSpeed, SetSwitches, SetMotor}
 use Rattle.orders.specs.Settings.{courseOf, withSetting}
-use Rattle.table.specs.Layout.{tableSize, motorAt, freshTable}
+use Rattle.table.specs.Layout.{motorAt, freshTable}
 use Rattle.table.specs.Sound.{soundTable}
 use Rattle.table.proofs.KeptLaws.{fresh-sound}
-use Rattle.urqolina.specs.Calls.{freshCall}
-use Rattle.laws.specs.Sequences.{urqolina, Call, after, run}
+use Rattle.laws.specs.Sequences.{urqolina, Call, after, run, Beginning, fromFresh, ran}
 use Rattle.laws.specs.Deeds.{Deed, starts, stops, speeds, sets, reads, ticks, rests, deed}
 use Rattle.laws.specs.Ledger.{settled, settings}
 use Rattle.laws.specs.Pulses.{Settled}
@@ -85,8 +83,8 @@ run-same c on t (k ∷ ks) m s p =
     rw (next t k s .follows c on .motor) (performed-same m (motorAt t c) (deed c t k) p) in
     run-same c on (after urqolina t k .table) ks (settled m (deed c t k)) (next t k s .sound) then
 
-pub settled-so : (b : List ℕ) → length b ≡ tableSize → (c : ℕ) → c ≤ 15 → (ks : List Call) → Settled urqolina b c ks
-settled-so b e c on ks =
-    let p : SameSettings (settings urqolina c (freshCall b .table) freshMotor ks) (motorAt (run urqolina (freshCall b .table) ks) c) =
-    rw (made-fresh b e) (run-same c on freshTable ks freshMotor fresh-sound (rw (fresh-motor c on) (search))) in
+pub settled-so : (b : Beginning) (c : ℕ) → c ≤ 15 → (ks : List Call) → Settled urqolina b c ks
+settled-so b c on ks =
+    let p : SameSettings (settings urqolina c (fromFresh urqolina b) freshMotor ks) (motorAt (ran urqolina b ks) c) =
+    rw (made-fresh b) (run-same c on freshTable ks freshMotor fresh-sound (rw (fresh-motor c on) (search))) in
     record { limits = p .limits; speeds = p .speeds; wiring = p .wiring; setup = p .setup }

@@ -32,7 +32,7 @@ use Rattle.table.specs.Sound.{soundTable}
 use Rattle.table.proofs.TableLaws.{sound-length, sound-motor-at}
 use Rattle.urqolina.specs.Calls.{tickCall}
 use Rattle.laws.specs.Sequences.{urqolina, Call, command, reading, tick, after}
-use Rattle.laws.specs.Deeds.{Deed, starts, stops, speeds, sets, reads, ticks, rests, deedIf, orderTaken, deedOf, deedTaken, deed}
+use Rattle.laws.specs.Deeds.{Deed, starts, stops, speeds, sets, reads, ticks, rests, deedIf, orderTaken, deedOf, deedTaken, deed, isTick}
 use Rattle.laws.specs.Ledger.{countAt, cwPulses, ccwPulses, Travel, resetBy, travelled}
 use Rattle.laws.proofs.PartLaws.{counts-part}
 use Rattle.laws.proofs.DeedLaws.{performed}
@@ -107,17 +107,7 @@ count-read t p c s e h =
     rw (eq-eqb (length t) tableSize (sound-length t s), eq-eqb (length p) 64 e, s, counts-part t c h)
     (word-bytes 4 (tickCount (motorAt t c)) (unfold tickCount in count-fits (motorAt t c .drive .going) (tickMotor (motorAt t c) .pulses) (pulses-bound (motorAt t c) (sound-motor-at t c s h))))
 
--- a deed is a tick
-unfoldable pub isTick : Deed → Bool
-isTick (starts s) = false
-isTick (stops flags) = false
-isTick (speeds v) = false
-isTick (sets s) = false
-isTick (reads n) = false
-isTick ticks = true
-isTick rests = false
-
--- It comes of a tick call with a buffer of 64 bytes, and of no command or reading.
+-- A tick comes of a tick call with a buffer of 64 bytes, and of no command or reading.
 pub if-tick : (b : Bool) (d : Deed) → isTick d ≡ false → isTick (deedIf b d) ≡ false
 unfolding isTick
 if-tick true d e = e
@@ -131,11 +121,8 @@ order-tick c (StopAll flags) = refl
 order-tick c (ChangeSpeed x v) = if-tick (eqb x c) (speeds v) refl
 order-tick c (Set x s) = if-tick (eqb x c) (sets s) refl
 order-tick c (Ask x q) = refl
-order-tick c (Mode k) = refl
-order-tick c (AllReply k) = refl
 order-tick c (AskHead q) = refl
-order-tick c ClearErrors = refl
-order-tick c (ClearError e) = refl
+order-tick c (ForHead h) = refl
 
 pub taken-tick : (c : ℕ) (p : Parsed) → isTick (deedTaken c p) ≡ false
 taken-tick c (Is o) = order-tick c o

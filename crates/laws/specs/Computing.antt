@@ -2,13 +2,13 @@
 -- definition that is otherwise shut. It says nothing itself.
 use Rattle.urqolina.specs.Computing.{computing-urqolina}
 use Rattle.laws.specs.Sequences.{after, run, never}
-use Rattle.laws.specs.Deeds.{orderTaken, names, deedOf, deed, ticksIn}
-use Rattle.laws.specs.Ledger.{cwPulses, ccwPulses, setsOff, wayOf, booked, entered, account, travelled, travel, settled, settings}
+use Rattle.laws.specs.Deeds.{orderTaken, names, deedOf, deed, isTick}
+use Rattle.laws.specs.Ledger.{cwPulses, ccwPulses, setsOff, wayOf, booked, entered, account, ticksIn, travelled, travel, settled, settings}
 use Rattle.laws.specs.Numbers.{asks}
 use Rattle.laws.specs.Neighbours.{ofHead}
-use Rattle.laws.specs.ReadBack.{questionFor, textFor, topic, changedBy, changes, modeOrder, replyOrder}
+use Rattle.laws.specs.ReadBack.{questionFor, textFor, topic, changedBy, changes, headTopic, writesField}
 use Rattle.laws.specs.Pulses.{disturbs}
 
 unfoldable pub computing-laws : Unit {0}
-unfolding computing-urqolina after run never orderTaken names deedOf deed ticksIn cwPulses ccwPulses setsOff wayOf booked entered account travelled travel settled settings asks ofHead questionFor textFor topic changedBy changes modeOrder replyOrder disturbs
+unfolding computing-urqolina after run never orderTaken names deedOf deed isTick cwPulses ccwPulses setsOff wayOf booked entered account ticksIn travelled travel settled settings asks ofHead questionFor textFor topic changedBy changes headTopic writesField disturbs
 computing-laws = tt

@@ -1,8 +1,8 @@
 -- What demand 2 makes of a call, by document 01's rules alone: which calls are accepted, and what an accepted one is to a
 -- channel. The table is a sound one, as it is after every sequence.
-use Prim.Native.Nat.{ℕ, zero, suc}
-use mathlib.Core.List.{List, [], _∷_}
-use mathlib.Core.Bool.{Bool, false, _&&_, cond}
+use Prim.Native.Nat.{ℕ}
+use mathlib.Core.List.{List}
+use mathlib.Core.Bool.{Bool, true, false, _&&_, cond}
 use lib.ListN.{length}
 use lib.Dec.{eqb, leb}
 use Rattle.drive.specs.declared.Verdict.{Verdict}
@@ -42,11 +42,8 @@ names x (StopAll flags) = false
 names x (ChangeSpeed y v) = eqb y x
 names x (Set y s) = eqb y x
 names x (Ask y q) = eqb y x
-names x (Mode k) = false
-names x (AllReply k) = false
 names x (AskHead q) = false
-names x ClearErrors = false
-names x (ClearError e) = false
+names x (ForHead h) = false
 
 -- what an accepted call is to one channel
 pub data Deed : Type 0 where
@@ -78,11 +75,8 @@ deedOf c (StopAll flags) = stops flags
 deedOf c (ChangeSpeed x v) = deedIf (eqb x c) (speeds v)
 deedOf c (Set x s) = deedIf (eqb x c) (sets s)
 deedOf c (Ask x q) = rests
-deedOf c (Mode k) = rests
-deedOf c (AllReply k) = rests
 deedOf c (AskHead q) = rests
-deedOf c ClearErrors = rests
-deedOf c (ClearError e) = rests
+deedOf c (ForHead h) = rests
 
 -- what is carried out is to channel c what its order is; nothing carried out is nothing
 abbrev pub deedTaken : ℕ → Parsed → Deed
@@ -95,12 +89,12 @@ deed c t (command line reply) = deedTaken c (orderTaken t (command line reply))
 deed c t (reading x n) = deedIf (eqb x c && leb n 7) (reads n)
 deed c t (tick p) = deedIf (eqb (length p) 64) ticks
 
--- the accepted ticks of a sequence; "A refused tick (5 or 6) is no tick of any drive"
-abbrev pub oneMore : Bool → ℕ → ℕ
-oneMore test n = cond test (suc n) n
-
-unfoldable pub ticksIn : List Call → ℕ
-ticksIn [] = zero
-ticksIn (command line reply ∷ ks) = ticksIn ks
-ticksIn (reading x n ∷ ks) = ticksIn ks
-ticksIn (tick p ∷ ks) = oneMore (eqb (length p) 64) (ticksIn ks)
+-- a deed is a tick; "A refused tick (5 or 6) is no tick of any drive"
+unfoldable pub isTick : Deed → Bool
+isTick (starts s) = false
+isTick (stops flags) = false
+isTick (speeds v) = false
+isTick (sets s) = false
+isTick (reads n) = false
+isTick ticks = true
+isTick rests = false

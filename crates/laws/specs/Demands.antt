@@ -4,9 +4,8 @@ use mathlib.Core.List.{List}
 use mathlib.Core.Bool.{true}
 use Prim.Native.Nat.{ℕ, _≤_}
 use lib.ListN.{length}
-use Rattle.table.specs.Layout.{tableSize}
 use Rattle.table.specs.Sound.{soundTable}
-use Rattle.laws.specs.Sequences.{Library, Call}
+use Rattle.laws.specs.Sequences.{Library, Call, Beginning}
 use Rattle.laws.specs.Numbers.{Numbers, Replies, Changes}
 use Rattle.laws.specs.Neighbours.{Neighbours}
 use Rattle.laws.specs.ReadBack.{ReadsBack}
@@ -22,13 +21,13 @@ pub record Demands (l : Library) : Type 0 where
   pub replies : (t line reply : List ℕ) (sound : soundTable t ≡ true) (enough : 32 ≤ length reply) → Replies l t line reply sound enough
   pub neighbours : Neighbours l
   -- "An accepted setting reads back with its value until something changes it."
-  pub readBack : (b : List ℕ) → length b ≡ tableSize → (ks : List Call) (k : Call) (later : List Call) (line reply : List ℕ) (enough : 32 ≤ length reply)
+  pub readBack : (b : Beginning) (ks : List Call) (k : Call) (later : List Call) (line reply : List ℕ) (enough : 32 ≤ length reply)
       → ReadsBack l b ks k later line reply enough
-  pub settled : (b : List ℕ) → length b ≡ tableSize → (c : ℕ) → c ≤ 15 → (ks : List Call) → Settled l b c ks
+  pub settled : (b : Beginning) (c : ℕ) → c ≤ 15 → (ks : List Call) → Settled l b c ks
   -- 3. "For any sequence of commands, readings and ticks after a fresh table, refused ones included, where nothing else writes to the
   -- table", of each channel
   pub lasting : Lasting l
-  pub pulses : (b : List ℕ) → length b ≡ tableSize → (c : ℕ) → c ≤ 15 → (ks : List Call) → Demand3 l b c ks
+  pub pulses : (b : Beginning) (c : ℕ) → c ≤ 15 → (ks : List Call) → Demand3 l b c ks
   -- "A drive to a target at distance D and speed v .. ends at tick D·1000/v rounded up."
-  pub lastTick : (b : List ℕ) → length b ≡ tableSize → (c : ℕ) → c ≤ 15 → (ks : List Call) (k : Call) (p : ℕ) (later : List Call)
+  pub lastTick : (b : Beginning) (c : ℕ) → c ≤ 15 → (ks : List Call) (k : Call) (p : ℕ) (later : List Call)
       → LastTick l b c ks k p later

@@ -1,6 +1,6 @@
 -- What demand 3 adds up for a channel, from what is seen outside: which calls are accepted, the pulse buffers, and whether the
 -- channel stands stopped. It knows no fraction.
-use Prim.Native.Nat.{ℕ, _+_, _*_, _-_}
+use Prim.Native.Nat.{ℕ, zero, suc, _+_, _*_, _-_}
 use mathlib.Core.List.{List, [], _∷_}
 use mathlib.Core.Bool.{Bool, true, false, _&&_, not, cond}
 use lib.Dec.{eqb, ltb}
@@ -17,7 +17,7 @@ use Rattle.line.specs.declared.Setting.the-variants.{Preset, SetCwLimit, SetCcw
 use Rattle.orders.specs.Settings.{directionOf, placeWritten, withSetting}
 use Rattle.table.specs.Layout.{motorAt}
 use Rattle.laws.specs.Sequences.{Library, Call, after}
-use Rattle.laws.specs.Deeds.{Deed, starts, stops, speeds, sets, reads, ticks, rests, deed}
+use Rattle.laws.specs.Deeds.{Deed, starts, stops, speeds, sets, reads, ticks, rests, deed, isTick}
 
 -- "sixteen signed 32-bit counts": the word of channel c in a pulse buffer
 abbrev pub countAt : List ℕ → ℕ → ℕ
@@ -38,6 +38,8 @@ against going n = cond (eqb going cw) (ccwPulses n) (cwPulses n)
 pub record Account : Type 0 where
   -- it lasts
   pub lasts : Bool
+  -- its ticks count: they add their speed and give pulses; here every drive's do
+  pub counting : Bool
   -- its direction, 1 CW, 2 CCW
   pub going : ℕ
   -- its speed in force
@@ -49,7 +51,24 @@ pub record Account : Type 0 where
 
 -- no drive yet
 abbrev pub noDrive : Account
-noDrive = record { lasts = false; going = 0; speed = 0; sum = 0; pulses = 0 }
+noDrive = record { lasts = false; counting = true; going = 0; speed = 0; sum = 0; pulses = 0 }
+
+-- a drive that begins in a direction at a speed
+abbrev pub newDrive : ℕ → ℕ → Account
+newDrive going speed = record { lasts = true; counting = true; going = going; speed = speed; sum = 0; pulses = 0 }
+
+-- the account with another speed in force
+abbrev pub atSpeed : Account → ℕ → Account
+atSpeed a v = record { lasts = a .lasts; counting = a .counting; going = a .going; speed = v; sum = a .sum; pulses = a .pulses }
+
+-- the account after a tick that counts: its speed and its pulses n are added
+abbrev pub withTick : Account → ℕ → Account
+withTick a n =
+    record { lasts = a .lasts; counting = a .counting; going = a .going; speed = a .speed; sum = a .sum + a .speed; pulses = a .pulses + n }
+
+-- a tick is one of the drive's: it lasts, and its ticks count
+abbrev pub takesTicks : Account → Bool
+takesTicks a = a .lasts && a .counting
 
 -- an accepted start is a drive, but for "ABS to the present position, REL 0"
 unfoldable pub setsOff : Motor → Start → Bool
@@ -66,21 +85,21 @@ wayOf m (Scan going) = going
 wayOf m (Jog going) = going
 
 -- what a deed on the motor m is to its account, with the pulses n of the channel's count: "A start takes the selected speed",
--- "SPC replaces the speed in force", and a tick of a drive adds its speed and its pulses
+-- "SPC replaces the speed in force", and a tick of the drive adds its speed and its pulses
 unfoldable pub booked : Motor → ℕ → Account → Deed → Account
 booked m n a (starts s) =
-    cond (setsOff m s) (record { lasts = true; going = wayOf m s; speed = selectedSpeed m; sum = 0; pulses = 0 }) a
+    cond (setsOff m s) (newDrive (wayOf m s) (selectedSpeed m)) a
 booked m n a (stops flags) = a
-booked m n a (speeds v) = record { lasts = a .lasts; going = a .going; speed = v; sum = a .sum; pulses = a .pulses }
+booked m n a (speeds v) = atSpeed a v
 booked m n a (sets s) = a
 booked m n a (reads contacts) = a
-booked m n a ticks =
-    cond (a .lasts) (record { lasts = true; going = a .going; speed = a .speed; sum = a .sum + a .speed; pulses = a .pulses + n }) a
+booked m n a ticks = cond (takesTicks a) (withTick a n) a
 booked m n a rests = a
 
 -- a drive ends where the channel stands stopped after a call
 abbrev pub closed : Motor → Account → Account
-closed m a = record { lasts = a .lasts && busy m; going = a .going; speed = a .speed; sum = a .sum; pulses = a .pulses }
+closed m a =
+    record { lasts = a .lasts && busy m; counting = a .counting; going = a .going; speed = a .speed; sum = a .sum; pulses = a .pulses }
 
 -- the account after one call on a table
 unfoldable pub entered : Library → ℕ → List ℕ → Account → Call → Account
@@ -93,6 +112,15 @@ entered l c t a k =
 unfoldable pub account : Library → ℕ → List ℕ → Account → List Call → Account
 account l c t a [] = a
 account l c t a (k ∷ ks) = account l c (after l t k .table) (entered l c t a k) ks
+
+-- how many accepted ticks of a sequence count for channel c
+abbrev pub oneMore : Bool → ℕ → ℕ
+oneMore test n = cond test (suc n) n
+
+unfoldable pub ticksIn : Library → ℕ → List ℕ → Account → List Call → ℕ
+ticksIn l c t a [] = zero
+ticksIn l c t a (k ∷ ks) =
+    oneMore (isTick (deed c t k) && a .counting) (ticksIn l c (after l t k .table) (entered l c t a k) ks)
 
 -- the way of a channel: the place of "its last accepted preset, or zero", and the CW and CCW pulses given since
 pub record Travel : Type 0 where

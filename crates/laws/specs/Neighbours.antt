@@ -22,11 +22,8 @@ ofHead (StopAll flags) = false
 ofHead (ChangeSpeed x v) = false
 ofHead (Set x s) = false
 ofHead (Ask x q) = false
-ofHead (Mode k) = true
-ofHead (AllReply k) = true
 ofHead (AskHead q) = false
-ofHead ClearErrors = true
-ofHead (ClearError e) = true
+ofHead (ForHead h) = true
 
 -- Demand 2, what a call leaves byte for byte, on any table whatever it holds
 pub record Neighbours (l : Library) : Type 0 where

@@ -2,12 +2,11 @@
 use mathlib.Core.Path.{_≡_}
 use mathlib.Core.List.{List, []}
 use mathlib.Core.Bool.{Bool, true, false, _&&_}
-use Prim.Native.Nat.{ℕ, _+_, _*_, _-_, _%_, _≤_}
+use Prim.Native.Nat.{ℕ, _+_, _*_, _%_, _≤_}
 use lib.ListN.{length}
 use lib.Dec.{eqb, leb}
 use Rattle.digits.specs.Bytes.{put}
-use Rattle.digits.specs.Words.{withBit}
-use Rattle.drive.specs.Numbers.{numberOf}
+use Rattle.drive.specs.Numbers.{numberOf, isRefusal}
 use Rattle.drive.specs.Drives.{switchRead}
 use Rattle.pulses.specs.Ticks.{tickMotor}
 use Rattle.line.specs.declared.Question.{Question}
@@ -17,10 +16,10 @@ use Rattle.line.specs.declared.Order.the-variants.{Go, Stop, StopAll, ChangeSpe
 use Rattle.line.specs.declared.Parsed.the-variants.{Is, Nothing}
 use Rattle.line.specs.Forms.{orderOf}
 use Rattle.replies.specs.Replies.{echo, questionText, headText}
-use Rattle.table.specs.Layout.{tableSize, mode, allReply, errors, withErrors, motorAt, withMotor, withMotors, freshTable}
+use Rattle.table.specs.Layout.{tableSize, headOf, motorAt, withMotor, withMotors, freshTable}
 use Rattle.table.specs.Sound.{soundTable}
 use Rattle.commands.specs.Judging.{judge}
-use Rattle.commands.specs.Changing.{changed}
+use Rattle.commands.specs.Changing.{changed, flagged}
 use Rattle.urqolina.specs.Calls.{counts}
 use Rattle.laws.specs.Sequences.{Library, Call, command, reading, tick, after}
 use Rattle.laws.specs.Deeds.{verdict, reads, orderTaken}
@@ -61,10 +60,12 @@ pub record Numbers (l : Library) : Type 0 where
   -- a reading and a tick have nothing more to refuse
   pub done : (t : List ℕ) (k : Call) → isCommand k ≡ false → sizesRight t k ≡ true → soundTable t ≡ true → after l t k .result ≡ 0
   -- "Numbers 1 to 4 set error flag bits 0 to 3 in turn and change nothing else in the table"
-  pub flags : (t line reply : List ℕ) (n : ℕ) → 1 ≤ n → n ≤ 4 → l .command t line reply .result % 256 ≡ n
-      → l .command t line reply .table ≡ withErrors t (withBit (n - 1) (errors t))
-  -- "5 and 6 change nothing anywhere", whenever they come, and no reply is counted
-  pub nothing : (t : List ℕ) (k : Call) (n : ℕ) → 5 ≤ n → after l t k .result % 256 ≡ n → after l t k ≡ record { result = n; table = t; buffer = lent k }
+  pub flags : (t line reply : List ℕ) (n : ℕ) → isRefusal n ≡ true → l .command t line reply .result % 256 ≡ n
+      → l .command t line reply .table ≡ flagged t n
+  -- "5 and 6 change nothing anywhere", whenever they come, and no reply is counted: so of every number that is neither 0 nor one of
+  -- those
+  pub nothing : (t : List ℕ) (k : Call) (n : ℕ) → (n ≡ 0 → ⊥) → isRefusal n ≡ false → after l t k .result % 256 ≡ n
+      → after l t k ≡ record { result = n; table = t; buffer = lent k }
   -- the orders that `Deeds` takes for accepted are those that get 0
   pub accepts : (t line reply : List ℕ) (o : Order) → soundTable t ≡ true → orderTaken t (command line reply) ≡ Is o → l .command t line reply .result % 256 ≡ 0
   pub refuses : (t line reply : List ℕ) → soundTable t ≡ true → orderTaken t (command line reply) ≡ Nothing → l .command t line reply .result % 256 ≡ 0 → ⊥
@@ -77,24 +78,21 @@ asks (StopAll flags) = false
 asks (ChangeSpeed x v) = false
 asks (Set x s) = false
 asks (Ask x q) = true
-asks (Mode k) = false
-asks (AllReply k) = false
 asks (AskHead q) = true
-asks ClearErrors = false
-asks (ClearError e) = false
+asks (ForHead h) = false
 
 -- Demand 2, the replies of a line with a reply buffer of 32 bytes or more, on any sound table
 module _ (l : Library) (t line reply : List ℕ) (sound : soundTable t ≡ true) (enough : 32 ≤ length reply) where
   pub record Replies : Type 0 where
     -- "A read's reply is always written": its text from the table, which it leaves
-    pub reads : (x : ℕ) (q : Question) → orderOf line ≡ Is (Ask x q) → let text = questionText (mode t) x (motorAt t x) q in
+    pub reads : (x : ℕ) (q : Question) → orderOf line ≡ Is (Ask x q) → let text = questionText (headOf t .mode) x (motorAt t x) q in
         after l t (command line reply) ≡ record { result = 256 * length text; table = t; buffer = put reply 0 text }
-    pub headReads : (q : HeadQuestion) → orderOf line ≡ Is (AskHead q) → let text = headText (allReply t) (errors t) q in
+    pub headReads : (q : HeadQuestion) → orderOf line ≡ Is (AskHead q) → let text = headText (headOf t) q in
         after l t (command line reply) ≡ record { result = 256 * length text; table = t; buffer = put reply 0 text }
     -- "Other commands, and numbers 1 to 4, write their text if all-reply is on after the command, else nothing. Bytes past the reply
     -- stay as they were."
     pub others : isSome asks (orderOf line) ≡ false
-        → let a = after l t (command line reply) in let text = echo (allReply (a .table)) (verdict t (orderOf line)) in
+        → let a = after l t (command line reply) in let text = echo (headOf (a .table) .reply) (verdict t (orderOf line)) in
         (a .result ≡ numberOf (verdict t (orderOf line)) + 256 * length text) × (a .buffer ≡ put reply 0 text)
 
 -- Demand 2, what an accepted call changes, on any sound table

@@ -8,26 +8,26 @@ use Rattle.digits.specs.Places.{ahead}
 use Rattle.record.specs.declared.Motor.{Motor}
 use Rattle.record.specs.Record.{freshMotor}
 use Rattle.motor.specs.Switches.{room, blocked}
-use Rattle.motor.specs.Sound.{busy}
+use Rattle.motor.specs.Sound.{busy, moving}
 use Rattle.drive.specs.declared.Course.the-variants.{To}
 use Rattle.drive.specs.Drives.{lsend, selectedSpeed, towards}
 use Rattle.pulses.specs.Ticks.{roundedUp, toTarget, distanceLeft, roomLeft}
 use Rattle.line.specs.declared.Start.{Start}
 use Rattle.orders.specs.Settings.{courseOf}
-use Rattle.table.specs.Layout.{tableSize, motorAt}
+use Rattle.table.specs.Layout.{motorAt}
 use Rattle.table.specs.Sound.{soundTable}
-use Rattle.laws.specs.Sequences.{Library, Call, tick, after, run, ran, never}
-use Rattle.laws.specs.Deeds.{Deed, starts, stops, speeds, sets, reads, ticks, rests, deed, ticksIn}
-use Rattle.laws.specs.Ledger.{countAt, cwPulses, ccwPulses, against, Account, noDrive, setsOff, account, Travel, noTravel, travel, settings}
+use Rattle.laws.specs.Sequences.{Library, Call, tick, after, run, Beginning, fromFresh, ran, never}
+use Rattle.laws.specs.Deeds.{Deed, starts, stops, speeds, sets, reads, ticks, rests, deed}
+use Rattle.laws.specs.Ledger.{countAt, cwPulses, ccwPulses, against, Account, noDrive, takesTicks, setsOff, entered, account, ticksIn, Travel, noTravel, travel, settings}
 
 -- "the table is sound" after any sequence, "so 6 never comes"
 pub record Lasting (l : Library) : Type 0 where
-  pub sound : (b : List ℕ) → length b ≡ tableSize → (ks : List Call) → soundTable (ran l b ks) ≡ true
-  pub neverSix : (b : List ℕ) → length b ≡ tableSize → (ks : List Call) (k : Call) → after l (ran l b ks) k .result % 256 ≡ 6 → ⊥
+  pub sound : (b : Beginning) (ks : List Call) → soundTable (ran l b ks) ≡ true
+  pub neverSix : (b : Beginning) (ks : List Call) (k : Call) → after l (ran l b ks) k .result % 256 ≡ 6 → ⊥
 
--- Demand 3, of channel c after a fresh call on the bytes b and the calls ks. Every beginning of a sequence is a sequence, so what
+-- Demand 3, of channel c after the beginning b and the calls ks. Every beginning of a sequence is a sequence, so what
 -- is stated here holds of every drive at every moment of it.
-module _ (l : Library) (b : List ℕ) (c : ℕ) (ks : List Call) where
+module _ (l : Library) (b : Beginning) (c : ℕ) (ks : List Call) where
   -- the table, the account of the last drive, and the way since the last preset
   abbrev pub tableNow : List ℕ
   tableNow = ran l b ks
@@ -36,14 +36,14 @@ module _ (l : Library) (b : List ℕ) (c : ℕ) (ks : List Call) where
   motorNow = motorAt (ran l b ks) c
 
   abbrev pub accountNow : Account
-  accountNow = account l c (l .fresh b .table) noDrive ks
+  accountNow = account l c (fromFresh l b) noDrive ks
 
   abbrev pub travelNow : Travel
-  travelNow = travel l c (l .fresh b .table) noTravel ks
+  travelNow = travel l c (fromFresh l b) noTravel ks
 
   -- the settings since fresh
   abbrev pub settingsNow : Motor
-  settingsNow = settings l c (l .fresh b .table) freshMotor ks
+  settingsNow = settings l c (fromFresh l b) freshMotor ks
 
   -- the motor after one call more
   abbrev pub motorNext : Call → Motor
@@ -65,6 +65,8 @@ module _ (l : Library) (b : List ℕ) (c : ℕ) (ks : List Call) where
     -- "each drive that demand 2 starts": an accepted start drives, and nothing drives but such a drive
     pub starting : (k : Call) (s : Start) → deed c tableNow k ≡ starts s → setsOff motorNow s ≡ true → busy (motorNext k) ≡ true
     pub lasting : accountNow .lasts ≡ busy motorNow
+    -- and the motor moves exactly while the drive's ticks count
+    pub counting : takesTicks accountNow ≡ moving motorNow
     -- "the speeds in force": the account's speed is the one that the table holds
     pub speed : accountNow .lasts ≡ true → accountNow .speed ≡ motorNow .drive .speed
     -- "CW positive": the pulses of a drive go its way
@@ -78,8 +80,8 @@ module _ (l : Library) (b : List ℕ) (c : ℕ) (ks : List Call) where
         (cwPulses n + ccwPulses n ≤ roomLeft motorNow) × (toTarget motorNow ≡ true → cwPulses n + ccwPulses n ≤ distanceLeft motorNow)
     -- the end flags stay until the next start
     pub flags : (k : Call) → busy motorNow ≡ false → busy (motorNext k) ≡ false → motorNext k .ended ≡ motorNow .ended
-    -- "A motor that stands stopped when the tick comes gets none."
-    pub none : busy motorNow ≡ false → (p : List ℕ) → length p ≡ 64 → countAt (l .tick tableNow p .pulses) c ≡ 0
+    -- "A motor that stands stopped when the tick comes gets none", nor does one whose drive's ticks do not count
+    pub none : takesTicks accountNow ≡ false → (p : List ℕ) → length p ≡ 64 → countAt (l .tick tableNow p .pulses) c ≡ 0
     -- "Each channel's position is its last accepted preset, or zero, plus the CW pulses given since, less the CCW pulses."
     pub position : motorNow .place + travelNow .ccw ≡ travelNow .preset + travelNow .cw
 
@@ -102,7 +104,7 @@ disturbs ticks = false
 disturbs rests = false
 
 -- The drive begins with an accepted start k of channel c to the place p; `later` are the calls after it, any but such.
-module _ (l : Library) (b : List ℕ) (c : ℕ) (ks : List Call) (k : Call) (p : ℕ) (later : List Call) where
+module _ (l : Library) (b : Beginning) (c : ℕ) (ks : List Call) (k : Call) (p : ℕ) (later : List Call) where
   -- D, and D·1000/v rounded up
   abbrev pub distance : ℕ
   distance = ahead (towards (motorNow l b c ks) p) (motorNow l b c ks .place) p
@@ -121,11 +123,22 @@ module _ (l : Library) (b : List ℕ) (c : ℕ) (ks : List Call) (k : Call) (p :
   abbrev pub tableLater : List ℕ
   tableLater = run l (after l (ran l b ks) k .table) later
 
+  -- the account after the start, and after `later`
+  abbrev pub accountBegun : Account
+  accountBegun = entered l c (ran l b ks) (accountNow l b c ks) k
+
+  abbrev pub accountLater : Account
+  accountLater = account l c (after l (ran l b ks) k .table) accountBegun later
+
+  -- how many of the ticks in `later` count
+  abbrev pub ticksLater : ℕ
+  ticksLater = ticksIn l c (after l (ran l b ks) k .table) accountBegun later
+
   pub record LastTick : Type 0 where
-    -- it drives as long as fewer ticks have come
-    pub before : Undisturbed → ticksIn later < lastTick → busy (motorAt tableLater c) ≡ true
-    -- and with that tick it stands stopped at its target, with end flags 0
+    -- it drives as long as fewer ticks that count have come
+    pub before : Undisturbed → ticksLater < lastTick → busy (motorAt tableLater c) ≡ true
+    -- and with that tick, where it counts, it stands stopped at its target, with end flags 0
     pub with :
-        Undisturbed → ticksIn later + 1 ≡ lastTick → (pulses : List ℕ) → length pulses ≡ 64
+        Undisturbed → accountLater .counting ≡ true → ticksLater + 1 ≡ lastTick → (pulses : List ℕ) → length pulses ≡ 64
         → (busy (motorAt (l .tick tableLater pulses .table) c) ≡ false) × (motorAt (l .tick tableLater pulses .table) c .place ≡ p)
         × (motorAt (l .tick tableLater pulses .table) c .ended ≡ 0)

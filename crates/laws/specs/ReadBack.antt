@@ -12,12 +12,14 @@ use Rattle.line.specs.declared.Setting.{Setting}
 use Rattle.line.specs.declared.Setting.the-variants.{Preset, SetCwLimit, SetCcwLimit, Select, SetSpeed, SetSwitches, SetMotor}
 use Rattle.line.specs.declared.Question.{Question}
 use Rattle.line.specs.declared.Question.the-variants.{AskPosition, AskCwLimit, AskCcwLimit, AskSelected, AskSpeed, AskSwitches, AskMotor, AskStatus}
+use Rattle.line.specs.declared.HeadOrder.{HeadOrder}
+use Rattle.line.specs.declared.HeadOrder.the-variants.{Mode, AllReply, ClearErrors, ClearError}
 use Rattle.line.specs.declared.Order.{Order}
 use Rattle.line.specs.declared.Order.the-variants.{Go, Stop, StopAll, ChangeSpeed, Set, Ask, AskHead, ForHead}
 use Rattle.line.specs.declared.Parsed.{Parsed}
 use Rattle.line.specs.declared.Parsed.the-variants.{Is, Nothing}
 use Rattle.orders.specs.Settings.{placeWritten}
-use Rattle.laws.specs.Sequences.{Library, Call, after, command, After, run, ran, never}
+use Rattle.laws.specs.Sequences.{Library, Call, after, command, After, run, Beginning, ran, never}
 use Rattle.laws.specs.Deeds.{Deed, starts, stops, speeds, sets, reads, ticks, rests, orderTaken, deed}
 use Rattle.laws.specs.Ledger.{countAt}
 use mathlib.Core.Path.{_≡_}
@@ -25,7 +27,7 @@ use lib.ListN.{length, getD}
 use Rattle.digits.specs.Bytes.{put}
 use Rattle.line.specs.declared.HeadQuestion.the-variants.{AskAllReply}
 use Rattle.line.specs.Forms.{orderOf}
-use Rattle.table.specs.Layout.{mode, allReply, motorAt}
+use Rattle.table.specs.Layout.{headOf, motorAt}
 
 -- the read command of each setting: `PS?x`, `FL?x`, `BL?x`, `SPD?x`, `SPDH?x`, `SPDM?x`, `SPDL?x`, `SETLS?x`, `SETMT?x`
 unfoldable pub questionFor : Setting → Question
@@ -83,48 +85,36 @@ changedBy s n rests = false
 unfoldable pub changes : Library → ℕ → Setting → List ℕ → Call → Bool
 changes l x s t k = changedBy s (countAt (after l t k .buffer) x) (deed x t k)
 
--- an accepted LOC or REM, and an accepted ALL_REP EN or DS
-unfoldable pub modeOrder : Order → Bool
-modeOrder (Go x s) = false
-modeOrder (Stop x flags) = false
-modeOrder (StopAll flags) = false
-modeOrder (ChangeSpeed x v) = false
-modeOrder (Set x s) = false
-modeOrder (Ask x q) = false
-modeOrder (Mode k) = true
-modeOrder (AllReply k) = false
-modeOrder (AskHead q) = false
-modeOrder ClearErrors = false
-modeOrder (ClearError e) = false
+-- the field of the head that an order writes, numbered: 0 the mode, 1 all-reply, 2 the error flags
+unfoldable pub headTopic : HeadOrder → ℕ
+headTopic (Mode k) = 0
+headTopic (AllReply k) = 1
+headTopic ClearErrors = 2
+headTopic (ClearError e) = 2
 
-unfoldable pub replyOrder : Order → Bool
-replyOrder (Go x s) = false
-replyOrder (Stop x flags) = false
-replyOrder (StopAll flags) = false
-replyOrder (ChangeSpeed x v) = false
-replyOrder (Set x s) = false
-replyOrder (Ask x q) = false
-replyOrder (Mode k) = false
-replyOrder (AllReply k) = true
-replyOrder (AskHead q) = false
-replyOrder ClearErrors = false
-replyOrder (ClearError e) = false
+-- an order writes the field numbered i
+unfoldable pub writesField : ℕ → Order → Bool
+writesField i (Go x s) = false
+writesField i (Stop x flags) = false
+writesField i (StopAll flags) = false
+writesField i (ChangeSpeed x v) = false
+writesField i (Set x s) = false
+writesField i (Ask x q) = false
+writesField i (AskHead q) = false
+writesField i (ForHead h) = eqb (headTopic h) i
 
 -- a test of an order, where there is one
 abbrev pub isSome : (Order → Bool) → Parsed → Bool
 isSome test (Is o) = test o
 isSome test Nothing = false
 
--- a call changes the mode, or all-reply
-abbrev pub changesMode : List ℕ → Call → Bool
-changesMode t k = isSome modeOrder (orderTaken t k)
-
-abbrev pub changesReply : List ℕ → Call → Bool
-changesReply t k = isSome replyOrder (orderTaken t k)
+-- a call takes an order that writes a field of the head
+abbrev pub changesHead : ℕ → List ℕ → Call → Bool
+changesHead i t k = isSome (writesField i) (orderTaken t k)
 
 -- Demand 2, the settings: what was accepted is what the read command answers, in the exact bytes of the reply, after any calls
 -- that do not change it. k is the accepted setting, `later` the calls after it, `line` the read command.
-module _ (l : Library) (b : List ℕ) (ks : List Call) (k : Call) (later : List Call) (line reply : List ℕ) (enough : 32 ≤ length reply) where
+module _ (l : Library) (b : Beginning) (ks : List Call) (k : Call) (later : List Call) (line reply : List ℕ) (enough : 32 ≤ length reply) where
   abbrev pub tableSet : List ℕ
   tableSet = after l (ran l b ks) k .table
 
@@ -139,11 +129,12 @@ module _ (l : Library) (b : List ℕ) (ks : List Call) (k : Call) (later : List 
     pub held : (x : ℕ) (s : Setting) → orderTaken (ran l b ks) k ≡ Is (Set x s) → never l (changes l x s) tableSet later ≡ true
         → (n : ℕ) → questionText n x (motorAt (run l tableSet later) x) (questionFor s) ≡ textFor s
     -- ALL_REP EN and DS
-    pub replyHeld : (n : ℕ) → orderTaken (ran l b ks) k ≡ Is (AllReply n) → never l changesReply tableSet later ≡ true
-        → allReply (run l tableSet later) ≡ n
-    pub allReply : (n : ℕ) → orderTaken (ran l b ks) k ≡ Is (AllReply n) → never l changesReply tableSet later ≡ true
+    pub replyHeld : (n : ℕ) → orderTaken (ran l b ks) k ≡ Is (ForHead (AllReply n)) → never l (changesHead 1) tableSet later ≡ true
+        → headOf (run l tableSet later) .reply ≡ n
+    pub allReply : (n : ℕ) → orderTaken (ran l b ks) k ≡ Is (ForHead (AllReply n)) → never l (changesHead 1) tableSet later ≡ true
         → orderOf line ≡ Is (AskHead AskAllReply) → after l (run l tableSet later) (command line reply) ≡ answered (cond (eqb n 1) (bytes "EN") (bytes "DS"))
     -- LOC and REM: the first letter of any channel's status
-    pub modeHeld : (n : ℕ) → orderTaken (ran l b ks) k ≡ Is (Mode n) → never l changesMode tableSet later ≡ true → mode (run l tableSet later) ≡ n
-    pub mode : (n x : ℕ) → orderTaken (ran l b ks) k ≡ Is (Mode n) → never l changesMode tableSet later ≡ true
+    pub modeHeld : (n : ℕ) → orderTaken (ran l b ks) k ≡ Is (ForHead (Mode n)) → never l (changesHead 0) tableSet later ≡ true
+        → headOf (run l tableSet later) .mode ≡ n
+    pub mode : (n x : ℕ) → orderTaken (ran l b ks) k ≡ Is (ForHead (Mode n)) → never l (changesHead 0) tableSet later ≡ true
         → orderOf line ≡ Is (Ask x AskStatus) → getD (after l (run l tableSet later) (command line reply) .buffer) 0 0 ≡ modeLetter n

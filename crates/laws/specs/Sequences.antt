@@ -4,6 +4,9 @@
 use Prim.Native.Nat.{ℕ}
 use mathlib.Core.List.{List, [], _∷_}
 use mathlib.Core.Bool.{Bool, true, _&&_, not}
+use mathlib.Core.Path.{_≡_}
+use lib.ListN.{length}
+use Rattle.table.specs.Layout.{tableSize}
 use Rattle.obeying.specs.Taking.{CommandAfter}
 use Rattle.urqolina.specs.Calls.{TableAfter, TickAfter, freshCall, commandCall, readingCall, tickCall}
 
@@ -51,9 +54,18 @@ unfoldable pub run : Library → List ℕ → List Call → List ℕ
 run l t [] = t
 run l t (k ∷ ks) = run l (after l t k .table) ks
 
--- "after a fresh table": the table after a fresh call on the bytes b and a sequence of calls
-abbrev pub ran : Library → List ℕ → List Call → List ℕ
-ran l b ks = run l (l .fresh b .table) ks
+-- how a sequence begins: with a fresh call that is lent a table's bytes, whatever they hold
+pub record Beginning : Type 0 where
+  pub bytes : List ℕ
+  pub whole : length bytes ≡ tableSize
+
+-- the table that this call leaves
+abbrev pub fromFresh : Library → Beginning → List ℕ
+fromFresh l b = l .fresh (b .bytes) .table
+
+-- "after a fresh table": the table after such a beginning and a sequence of calls
+abbrev pub ran : Library → Beginning → List Call → List ℕ
+ran l b ks = run l (fromFresh l b) ks
 
 -- no call of a sequence passes a test, which sees the table before it
 unfoldable pub never : Library → (List ℕ → Call → Bool) → List ℕ → List Call → Bool

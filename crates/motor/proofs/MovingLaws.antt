@@ -3,7 +3,7 @@ use mathlib.Core.Path.{_≡_, refl}
 use mathlib.Core.Bool.{true, false}
 use Prim.Native.Nat.{ℕ}
 use Rattle.record.specs.declared.Motor.{Motor}
-use Rattle.record.specs.Record.{withPlace, withDrive, withFraction}
+use Rattle.record.specs.Record.{withPlace, withDrive, withFraction, withSpeedInForce}
 use Rattle.motor.specs.Sound.{busy, moving}
 
 -- What moves is busy, and what is not busy does not move.
@@ -14,6 +14,15 @@ moving-busy m e = e
 pub idle-still : (m : Motor) → busy m ≡ false → moving m ≡ false
 unfolding moving
 idle-still m e = e
+
+-- Whether a motor moves lies in its drive, and not in the speed in force.
+pub moving-drive : (n m : Motor) → n .drive ≡ m .drive → moving n ≡ moving m
+unfolding moving
+moving-drive n m e = rw e
+
+pub speed-moves : (m : Motor) (e v : ℕ) → moving (withDrive m e (withSpeedInForce (m .drive) v)) ≡ moving m
+unfolding moving
+speed-moves m e v = refl
 
 -- A motor that is at another place with another fraction moves if it did.
 pub carried-moves : (m : Motor) (p e n : ℕ) → moving (withDrive (withPlace m p) e (withFraction (m .drive) n)) ≡ moving m
