@@ -5,12 +5,12 @@ use mathlib.Core.Bool.{Bool, true, false, _&&_, _||_, cond, and-eq-true-iff, fal
 use mathlib.Core.Logic.{inl, inr}
 use Prim.Native.Nat.{ℕ, zero, suc, _+_, _<_, _≤_}
 use native.Mathlib.Omega.{arith}
-use lib.ListN.{drop, drop-of-length-le}
+use lib.ListN.{length, drop, drop-of-length-le}
 use lib.Dec.{eqb, leb}
 use types.Run.{OneOf}
 use borrow.Author.Tests.{eq-eqb, ne-eqb, leb-true, leb-false}
-use Rattle.line.specs.Forms.{Row, forms, those}
-use Rattle.form.specs.Table.{packed, rowsWith}
+use Rattle.line.specs.Forms.{Row, headRows, requestRows, forms, those}
+use Rattle.form.specs.Table.{packed, rowsWith, rowCount}
 use Rattle.form.specs.Computing.{computing-form}
 
 -- a number is one of some
@@ -53,7 +53,7 @@ arm-none [] ks n h a = a
 arm-none (k ∷ []) ks n h a = rw (ne-eqb n k h, a)
 arm-none (k ∷ j ∷ g) ks n h a = rw (ne-eqb n k (λ e. h (inl e))) (arm-none (j ∷ g) ks n (λ e. h (inr e)) a)
 
-pub rest-none : (gs : List (List ℕ)) (n : ℕ) → Rest gs n → among n (flat gs) ≡ false
+rest-none : (gs : List (List ℕ)) (n : ℕ) → Rest gs n → among n (flat gs) ≡ false
 rest-none [] n r = refl
 rest-none (g ∷ gs) n r = arm-none g (flat gs) n (r .1) (rest-none gs n (r .0))
 
@@ -63,21 +63,25 @@ covered ks [] = true
 covered ks (r ∷ rs) = among (packed (r .word)) ks && covered ks rs
 
 -- Letters that are none of the rows' words have no row among them, whatever rows come after.
-pub none-before : (ks : List ℕ) (a b : List Row) (n : ℕ) → covered ks a ≡ true → among n ks ≡ false → rowsWith n (a ++ b) ≡ rowsWith n b
+no-word : (ks : List ℕ) (a b : List Row) (n : ℕ) → covered ks a ≡ true → among n ks ≡ false → rowsWith n (a ++ b) ≡ rowsWith n b
 unfolding rowsWith those
-none-before ks [] b n h e = refl
-none-before ks (r ∷ a) b n h e =
+no-word ks [] b n h e = refl
+no-word ks (r ∷ a) b n h e =
     let both = and-eq-true-iff (among (packed (r .word)) ks) (covered ks a) .0 h in
     let other : eqb (packed (r .word)) n ≡ false = ne-eqb (packed (r .word)) n (λ q. false≢true (sym e ∙ (rw q at (both .0)))) in
-    rw other (none-before ks a b n (both .1) e)
+    rw other (no-word ks a b n (both .1) e)
 
-pub none-with : (ks : List ℕ) (rs : List Row) (n : ℕ) → covered ks rs ≡ true → among n ks ≡ false → rowsWith n rs ≡ []
+-- So it is after the arms of the rows' words.
+pub none-before : (a b : List Row) (n : ℕ) → covered (flat (keys a)) a ≡ true → Rest (keys a) n → rowsWith n (a ++ b) ≡ rowsWith n b
+none-before a b n h r = no-word (flat (keys a)) a b n h (rest-none (keys a) n r)
+
+pub none-with : (rs : List Row) (n : ℕ) → covered (flat (keys rs)) rs ≡ true → Rest (keys rs) n → rowsWith n rs ≡ []
 unfolding rowsWith those
-none-with ks rs n h e = rw append-nil at (none-before ks rs [] n h e)
+none-with rs n h r = rw append-nil at (none-before rs [] n h r)
 
 -- Past the last row there is none.
-pub no-rows : (n : ℕ) → 41 ≤ n → drop n forms ≡ []
-unfolding computing-form
+pub no-rows : (n : ℕ) → rowCount ≤ n → drop n forms ≡ []
+unfolding rowCount
 no-rows n h = drop-of-length-le forms h
 
 -- A number that is not below another nor that number is above it.
@@ -95,6 +99,11 @@ rest-above from zero n h r = omega arith
 rest-above from (suc k) n h r =
     let i : suc (from + k) ≤ n = past (from + k) n (rest-above from k n h (r .0)) (r .1) in
     omega arith
+
+-- After an arm for each row of the head and of the requests there is no row.
+pub past-head : (n : ℕ) → 32 ≤ n → Rest (armsFrom 32 (length (headRows ++ requestRows))) n → drop n forms ≡ []
+unfolding computing-form
+past-head n h r = no-rows n (rest-above 32 (length (headRows ++ requestRows)) n h r)
 
 -- the numbers from one on
 abbrev pub numbers : ℕ → ℕ → List ℕ

@@ -1,0 +1,21 @@
+-- `form::tails::head_tail` meets its contract. Assumes nothing.
+use Rattle.form.specs.Computing.{computing-form}
+use Rattle.form.proofs.TableLaws.{past-head}
+use Rattle.form.proofs.tails.head_tail.Statement.{statement}
+use Rattle.form.proofs.tails.head_tail.Tie as tie
+
+pub head-tail-spec : {M : Type 1} → statement M
+unfolding computing-form
+head-tail-spec =
+    tie.close
+    (tie.spec
+    (λ c. rw (c .match .keys1))
+    (λ c. rw (c .match .keys2))
+    (λ c. rw (c .match .keys3))
+    (λ c. rw (c .match .keys4))
+    (λ c. rw (c .match .keys5))
+    (λ c. rw (c .match .keys6))
+    (λ c. rw (c .match .keys7))
+    (λ c. rw (c .match .keys8))
+    (λ c. rw (c .match .keys9))
+    (λ c. rw (past-head (c .before .args .row) (c .before .pre) (c .match .rest))))
