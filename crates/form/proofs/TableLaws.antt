@@ -111,12 +111,12 @@ numbers from zero = []
 numbers from (suc k) = from ∷ numbers (suc from) k
 
 -- A function that has one value at k numbers in a row has it at each.
-pub all-between : {A : Type 0} (F : ℕ → A) (v : A) (from k n : ℕ) → map F (numbers from k) ≡ map (λ i. v) (numbers from k) → from ≤ n → n < from + k → F n ≡ v
-all-between F v from zero n e l u = absurd (omega arith)
-all-between F v from (suc k) n e l u = go (leb n from) refl (all-between F v (suc from) k n (tail-eq-of-cons-eq e))
+pub all-between : {A : Type 0} (F : ℕ → A) (v : A) (from k n : ℕ) → map F (numbers from k) ≡ map (λ i. v) (numbers from k) → n < from + k → from ≤ n → F n ≡ v
+all-between F v from zero n e u l = absurd (omega arith)
+all-between F v from (suc k) n e u l = go (leb n from) refl (all-between F v (suc from) k n (tail-eq-of-cons-eq e))
   where
-    go : (t : Bool) → leb n from ≡ t → (suc from ≤ n → n < suc from + k → F n ≡ v) → F n ≡ v
+    go : (t : Bool) → leb n from ≡ t → (n < suc from + k → suc from ≤ n → F n ≡ v) → F n ≡ v
     go true p later =
         let h : n ≡ from = omega (arith, leb-true n from p) in
         rw h (head-eq-of-cons-eq e)
-    go false p later = later (omega (arith, leb-false n from p)) (omega arith)
+    go false p later = later (omega arith) (omega (arith, leb-false n from p))

@@ -1,4 +1,5 @@
 -- `form::making::head_order` meets its contract. Assumes nothing.
+use native.Mathlib.Omega.{arith}
 use Rattle.form.specs.Computing.{computing-form}
 use Rattle.form.proofs.TableLaws.{past-head}
 use Rattle.form.proofs.making.head_order.Statement.{statement}
@@ -18,4 +19,4 @@ head-order-spec =
     (λ c. rw (c .match .keys7))
     (λ c. rw (c .match .keys8))
     (λ c. rw (c .match .keys9))
-    (λ c. rw (past-head (c .before .before .args .row) (c .before .before .pre) (c .match .rest))))
+    (λ c. rw (past-head _ (omega arith) (c .match .rest))))

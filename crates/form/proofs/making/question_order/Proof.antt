@@ -1,4 +1,5 @@
 -- `form::making::question_order` meets its contract. Assumes nothing.
+use native.Mathlib.Omega.{arith}
 use Rattle.form.specs.Computing.{computing-form}
 use Rattle.form.proofs.TableLaws.{rest-above}
 use Rattle.form.proofs.making.question_order.Statement.{statement}
@@ -9,7 +10,7 @@ unfolding computing-form
 question-order-spec =
     tie.close
     (tie.spec
-    (λ c κs. rest-above 22 10 (c .before .args .row) (c .before .pre) (c .match .rest))
+    (λ c κs. rest-above 22 10 _ (omega arith) (c .match .rest))
     (λ c. rw (c .match .keys1))
     (λ c. rw (c .match .keys2))
     (λ c. rw (c .match .keys3))

@@ -1,4 +1,5 @@
 -- `form::making::setting_order` meets its contract. Assumes nothing.
+use native.Mathlib.Omega.{arith}
 use Rattle.form.specs.Computing.{computing-form}
 use Rattle.form.proofs.TableLaws.{rest-above}
 use Rattle.form.proofs.making.setting_order.Statement.{statement}
@@ -9,7 +10,7 @@ unfolding computing-form
 setting-order-spec =
     tie.close
     (tie.spec
-    (λ c κs. let l = c .before .before .before .before in rest-above 11 11 (l .args .row) (l .pre) (c .match .rest))
+    (λ c κs. rest-above 11 11 _ (omega arith) (c .match .rest))
     (λ c. rw (c .match .keys1))
     (λ c. rw (c .match .keys2))
     (λ c. rw (c .match .keys3))

@@ -34,4 +34,4 @@ first-row-spec =
     (λ c. rw (c .match .keys17) (record { row = refl; most = omega arith }))
     (λ c. rw (c .match .keys18) (record { row = refl; most = omega arith }))
     (λ c. rw (c .match .keys19) (record { row = refl; most = omega arith }))
-    (λ c. rw (none-before (startRows ++ (stopRows ++ settingRows)) (questionRows ++ (headRows ++ requestRows)) (c .before .before .args .word) refl (c .before .match .rest)) (c .later-row .ensures)))
+    (λ c. rw (none-before (startRows ++ (stopRows ++ settingRows)) (questionRows ++ (headRows ++ requestRows)) _ refl (c .before .match .rest)) (c .later-row .ensures)))

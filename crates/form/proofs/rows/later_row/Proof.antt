@@ -30,4 +30,4 @@ later-row-spec =
     (λ c. rw (c .match .keys15) (record { row = refl; most = omega arith }))
     (λ c. rw (c .match .keys16) (record { row = refl; most = omega arith }))
     (λ c. rw (c .match .keys17) (record { row = refl; most = omega arith }))
-    (λ c. rw (none-with (questionRows ++ (headRows ++ requestRows)) (c .before .args .word) refl (c .match .rest)) (record { row = refl; most = omega arith })))
+    (λ c. rw (none-with (questionRows ++ (headRows ++ requestRows)) _ refl (c .match .rest)) (record { row = refl; most = omega arith })))

@@ -1,4 +1,5 @@
 -- `form::tails::head_tail` meets its contract. Assumes nothing.
+use native.Mathlib.Omega.{arith}
 use Rattle.form.specs.Computing.{computing-form}
 use Rattle.form.proofs.TableLaws.{past-head}
 use Rattle.form.proofs.tails.head_tail.Statement.{statement}
@@ -18,4 +19,4 @@ head-tail-spec =
     (λ c. rw (c .match .keys7))
     (λ c. rw (c .match .keys8))
     (λ c. rw (c .match .keys9))
-    (λ c. rw (past-head (c .before .args .row) (c .before .pre) (c .match .rest))))
+    (λ c. rw (past-head _ (omega arith) (c .match .rest))))

@@ -22,22 +22,20 @@ unfolding computing-form
 tail-of-spec =
     tie.close
     (tie.spec
-    (λ c κs. let m = c .before .before .before .before .before .before .before in past 31 (m .before .args .row) (c .if7 .left) (m .match .rest .1))
+    (λ c κs. let m = c .before .before .before .before .before .before .before in past 31 _ (c .if7 .left) (m .match .rest .1))
     (λ c. rw (c .match .keys1))
     (λ c. rw (c .match .keys2))
     (λ c. rw (c .match .keys3))
     (λ c. rw (c .match .keys4))
-    (λ c. sym (all-between after x±d 0 2 (c .before .before .args .row) refl (omega arith) (omega arith)))
-    (λ c. sym (all-between after x 2 6 (c .before .before .before .args .row) refl (omega arith) (omega arith)))
-    (λ c. sym (all-between after alone 8 2 (c .before .before .before .before .args .row) refl (omega arith) (omega arith)))
+    (λ c. sym (all-between after x±d 0 2 _ refl (c .if1 .taken) (omega arith)))
+    (λ c. sym (all-between after x 2 6 _ refl (c .if2 .taken) (omega arith)))
+    (λ c. sym (all-between after alone 8 2 _ refl (c .if3 .taken) (omega arith)))
     (λ c.
     let m = c .before .before .before .before in
-    let n = m .before .args .row in
-    sym (all-between after x±d 11 3 n refl (past 10 n (c .before .if3 .left) (m .match .rest .0 .0 .0 .1)) (c .if4 .taken)))
-    (λ c. sym (all-between after x 14 3 (c .before .before .before .before .before .before .args .row) refl (omega arith) (omega arith)))
-    (λ c. sym (all-between after xd 17 3 (c .before .before .before .before .before .before .before .args .row) refl (omega arith) (omega arith)))
+    sym (all-between after x±d 11 3 _ refl (c .if4 .taken) (past 10 _ (c .before .if3 .left) (m .match .rest .0 .0 .0 .1))))
+    (λ c. sym (all-between after x 14 3 _ refl (c .if5 .taken) (omega arith)))
+    (λ c. sym (all-between after xd 17 3 _ refl (c .if6 .taken) (omega arith)))
     (λ c.
     let m = c .before .before .before .before .before .before .before in
-    let n = m .before .args .row in
-    sym (all-between after x 22 9 n refl (past 21 n (past 20 n (c .before .if6 .left) (m .match .rest .0 .0 .1)) (m .match .rest .0 .1)) (c .if7 .taken)))
+    sym (all-between after x 22 9 _ refl (c .if7 .taken) (past 21 _ (past 20 _ (c .before .if6 .left) (m .match .rest .0 .0 .1)) (m .match .rest .0 .1))))
     (λ c. c .head-tail .ensures))
