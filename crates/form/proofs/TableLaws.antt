@@ -1,17 +1,16 @@
 -- Laws of the table of forms, for the functions that hold it as a `match` on a word. Assumes nothing.
 use mathlib.Core.Path.{_≡_, refl, sym, _∙_}
-use mathlib.Core.List.{List, [], _∷_, _++_, map, append-nil, head-eq-of-cons-eq, tail-eq-of-cons-eq}
+use mathlib.Core.List.{List, [], _∷_, _++_, append-nil}
 use mathlib.Core.Bool.{Bool, true, false, _&&_, _||_, cond, and-eq-true-iff, false≢true}
 use mathlib.Core.Logic.{inl, inr}
-use Prim.Native.Nat.{ℕ, zero, suc, _+_, _<_, _≤_}
+use Prim.Native.Nat.{ℕ, zero, suc, _+_, _-_, _≤_}
 use native.Mathlib.Omega.{arith}
-use lib.ListN.{length, drop, drop-of-length-le}
-use lib.Dec.{eqb, leb}
+use lib.ListN.{drop, drop-of-length-le}
+use lib.Dec.{eqb}
 use types.Run.{OneOf}
-use borrow.Author.Tests.{eq-eqb, ne-eqb, leb-true, leb-false}
-use Rattle.line.specs.Forms.{Row, headRows, requestRows, forms, those}
+use borrow.Author.Tests.{ne-eqb}
+use Rattle.line.specs.Forms.{Row, forms, those}
 use Rattle.form.specs.Table.{packed, rowsWith, rowCount}
-use Rattle.form.specs.Computing.{computing-form}
 
 -- a number is one of some
 abbrev pub among : ℕ → List ℕ → Bool
@@ -31,17 +30,6 @@ keys rs = keysAfter [] [] rs
 abbrev pub flat : List (List ℕ) → List ℕ
 flat [] = []
 flat (g ∷ gs) = g ++ flat gs
-
--- A number that is one of an arm's is among them.
-pub one-among : (ks : List ℕ) (n : ℕ) → OneOf ks n → among n ks ≡ true
-one-among [] n h = absurd h
-one-among (k ∷ []) n h = rw (eq-eqb n k h)
-one-among (k ∷ j ∷ ks) n (inl h) = rw (eq-eqb n k h)
-one-among (k ∷ j ∷ ks) n (inr h) = rw (one-among (j ∷ ks) n h) (or-true (eqb n k))
-  where
-    or-true : (b : Bool) → (b || true) ≡ true
-    or-true true = refl
-    or-true false = refl
 
 -- What is known after the arms of a `match`, the last arm first: the number is none of theirs.
 abbrev pub Rest : List (List ℕ) → ℕ → Type 0
@@ -84,10 +72,6 @@ pub no-rows : (n : ℕ) → rowCount ≤ n → drop n forms ≡ []
 unfolding rowCount
 no-rows n h = drop-of-length-le forms h
 
--- A number that is not below another nor that number is above it.
-pub past : (k n : ℕ) → k ≤ n → (n ≡ k → ⊥) → suc k ≤ n
-past k n h other = omega arith
-
 -- the numbers from one on, an arm each, the last first
 abbrev pub armsFrom : ℕ → ℕ → List (List ℕ)
 armsFrom from zero = []
@@ -97,26 +81,12 @@ armsFrom from (suc k) = ((from + k) ∷ []) ∷ armsFrom from k
 pub rest-above : (from k n : ℕ) → from ≤ n → Rest (armsFrom from k) n → from + k ≤ n
 rest-above from zero n h r = omega arith
 rest-above from (suc k) n h r =
-    let i : suc (from + k) ≤ n = past (from + k) n (rest-above from k n h (r .0)) (r .1) in
+    let i : from + k ≤ n = rest-above from k n h (r .0) in
+    let other : n ≡ from + k → ⊥ = r .1 in
     omega arith
 
--- After an arm for each row of the head and of the requests there is no row.
-pub past-head : (n : ℕ) → 32 ≤ n → Rest (armsFrom 32 (length (headRows ++ requestRows))) n → drop n forms ≡ []
-unfolding computing-form
-past-head n h r = no-rows n (rest-above 32 (length (headRows ++ requestRows)) n h r)
-
--- the numbers from one on
-abbrev pub numbers : ℕ → ℕ → List ℕ
-numbers from zero = []
-numbers from (suc k) = from ∷ numbers (suc from) k
-
--- A function that has one value at k numbers in a row has it at each.
-pub all-between : {A : Type 0} (F : ℕ → A) (v : A) (from k n : ℕ) → map F (numbers from k) ≡ map (λ i. v) (numbers from k) → n < from + k → from ≤ n → F n ≡ v
-all-between F v from zero n e u l = absurd (omega arith)
-all-between F v from (suc k) n e u l = go (leb n from) refl (all-between F v (suc from) k n (tail-eq-of-cons-eq e))
-  where
-    go : (t : Bool) → leb n from ≡ t → (n < suc from + k → suc from ≤ n → F n ≡ v) → F n ≡ v
-    go true p later =
-        let h : n ≡ from = omega (arith, leb-true n from p) in
-        rw h (head-eq-of-cons-eq e)
-    go false p later = later (omega arith) (omega (arith, leb-false n from p))
+-- After an arm for each row from a number on there is no row.
+pub rows-passed : (from n : ℕ) → from ≤ n → Rest (armsFrom from (rowCount - from)) n → drop n forms ≡ []
+rows-passed from n h r =
+    let i : from + (rowCount - from) ≤ n = rest-above from (rowCount - from) n h r in
+    no-rows n (omega arith)

@@ -1,7 +1,7 @@
 -- `form::making::head_order` meets its contract. Assumes nothing.
 use native.Mathlib.Omega.{arith}
 use Rattle.form.specs.Computing.{computing-form}
-use Rattle.form.proofs.TableLaws.{past-head}
+use Rattle.form.proofs.TableLaws.{rows-passed}
 use Rattle.form.proofs.making.head_order.Statement.{statement}
 use Rattle.form.proofs.making.head_order.Tie as tie
 
@@ -19,4 +19,4 @@ head-order-spec =
     (λ c. rw (c .match .keys7))
     (λ c. rw (c .match .keys8))
     (λ c. rw (c .match .keys9))
-    (λ c. rw (past-head _ (omega arith) (c .match .rest))))
+    (λ c. rw (rows-passed 32 _ (omega arith) (c .match .rest))))

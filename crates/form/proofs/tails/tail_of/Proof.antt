@@ -1,41 +1,54 @@
 -- `form::tails::tail_of` meets its contract. Assumes nothing.
-use mathlib.Core.Path.{refl, sym}
-use mathlib.Core.List.{List}
-use Prim.Native.Nat.{ℕ}
 use native.Mathlib.Omega.{arith}
-use lib.ListN.{drop}
-use Rattle.line.specs.declared.Field.{Field}
-use Rattle.line.specs.Shapes.{alone, x, x±d, xd}
-use Rattle.line.specs.Forms.{forms}
-use Rattle.form.specs.Table.{fieldsBy}
 use Rattle.form.specs.Computing.{computing-form}
-use Rattle.form.proofs.TableLaws.{past, all-between}
+use Rattle.form.proofs.TableLaws.{rows-passed}
 use Rattle.form.proofs.tails.tail_of.Statement.{statement}
 use Rattle.form.proofs.tails.tail_of.Tie as tie
-
--- what follows the word of each row
-abbrev after : ℕ → List Field
-after i = fieldsBy (drop i forms)
 
 pub tail-of-spec : {M : Type 1} → statement M
 unfolding computing-form
 tail-of-spec =
     tie.close
     (tie.spec
-    (λ c κs. let m = c .before .before .before .before .before .before .before in past 31 _ (c .if7 .left) (m .match .rest .1))
     (λ c. rw (c .match .keys1))
     (λ c. rw (c .match .keys2))
     (λ c. rw (c .match .keys3))
     (λ c. rw (c .match .keys4))
-    (λ c. sym (all-between after x±d 0 2 _ refl (c .if1 .taken) (omega arith)))
-    (λ c. sym (all-between after x 2 6 _ refl (c .if2 .taken) (omega arith)))
-    (λ c. sym (all-between after alone 8 2 _ refl (c .if3 .taken) (omega arith)))
-    (λ c.
-    let m = c .before .before .before .before in
-    sym (all-between after x±d 11 3 _ refl (c .if4 .taken) (past 10 _ (c .before .if3 .left) (m .match .rest .0 .0 .0 .1))))
-    (λ c. sym (all-between after x 14 3 _ refl (c .if5 .taken) (omega arith)))
-    (λ c. sym (all-between after xd 17 3 _ refl (c .if6 .taken) (omega arith)))
-    (λ c.
-    let m = c .before .before .before .before .before .before .before in
-    sym (all-between after x 22 9 _ refl (c .if7 .taken) (past 21 _ (past 20 _ (c .before .if6 .left) (m .match .rest .0 .0 .1)) (m .match .rest .0 .1))))
-    (λ c. c .head-tail .ensures))
+    (λ c. rw (c .match .keys5))
+    (λ c. rw (c .match .keys6))
+    (λ c. rw (c .match .keys7))
+    (λ c. rw (c .match .keys8))
+    (λ c. rw (c .match .keys9))
+    (λ c. rw (c .match .keys10))
+    (λ c. rw (c .match .keys11))
+    (λ c. rw (c .match .keys12))
+    (λ c. rw (c .match .keys13))
+    (λ c. rw (c .match .keys14))
+    (λ c. rw (c .match .keys15))
+    (λ c. rw (c .match .keys16))
+    (λ c. rw (c .match .keys17))
+    (λ c. rw (c .match .keys18))
+    (λ c. rw (c .match .keys19))
+    (λ c. rw (c .match .keys20))
+    (λ c. rw (c .match .keys21))
+    (λ c. rw (c .match .keys22))
+    (λ c. rw (c .match .keys23))
+    (λ c. rw (c .match .keys24))
+    (λ c. rw (c .match .keys25))
+    (λ c. rw (c .match .keys26))
+    (λ c. rw (c .match .keys27))
+    (λ c. rw (c .match .keys28))
+    (λ c. rw (c .match .keys29))
+    (λ c. rw (c .match .keys30))
+    (λ c. rw (c .match .keys31))
+    (λ c. rw (c .match .keys32))
+    (λ c. rw (c .match .keys33))
+    (λ c. rw (c .match .keys34))
+    (λ c. rw (c .match .keys35))
+    (λ c. rw (c .match .keys36))
+    (λ c. rw (c .match .keys37))
+    (λ c. rw (c .match .keys38))
+    (λ c. rw (c .match .keys39))
+    (λ c. rw (c .match .keys40))
+    (λ c. rw (c .match .keys41))
+    (λ c. rw (rows-passed 0 _ (omega arith) (c .match .rest))))
