@@ -4,7 +4,7 @@ use mathlib.Core.Path.{_≡_}
 use Prim.Native.Nat.{ℕ, _≤_}
 use mathlib.Core.List.{List, [], _∷_, reverse}
 use mathlib.Core.Bool.{Bool, true, false, _||_, cond}
-use lib.ListN.{take, drop}
+use lib.ListN.{length, take, drop}
 use lib.Dec.{eqb}
 use Rattle.text.specs.Text.{same}
 use Rattle.digits.specs.Words.{word}
@@ -48,7 +48,11 @@ abbrev pub orderBy : List Row → Fields → Parsed → Parsed
 orderBy [] f other = other
 orderBy (r ∷ rs) f other = Is (r .order f)
 
--- n is the number of the first of some rows, counted from 0 in the order of the forms; of none it is 41, as many as there are
+-- as many rows as there are
+unfoldable pub rowCount : ℕ
+rowCount = length forms
+
+-- n is the number of the first of some rows, counted from 0 in the order of the forms; of none it is as many as there are
 pub record Numbers (n : ℕ) (rs : List Row) : Type 0 where
   pub row : take 1 (drop n forms) ≡ take 1 rs
-  pub most : n ≤ 41
+  pub most : n ≤ rowCount

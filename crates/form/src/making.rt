@@ -106,6 +106,7 @@ fn question_order(row: u8, f: Fields) -> Parsed
     }
 }
 
+// The rows of the requests follow the head's here, in the rows' order.
 fn head_order(row: u8, f: Fields) -> Parsed
     requires { ⌜ 32 ≤ row ⌝ }
     ensures { λ r. ⌜ r ≡ orderBy (drop row forms) f Nothing ⌝ }

@@ -3,7 +3,7 @@
 use crate::words::*;
 ghost use mathlib.Core.Bool.{true, false};
 ghost use mathlib.Core.List.{_++_};
-ghost use Rattle.line.specs.Forms.{questionRows, headRows};
+ghost use Rattle.line.specs.Forms.{questionRows, headRows, requestRows};
 ghost use Rattle.form.specs.Table.{rowsWith, rowsBy, Numbers};
 
 // Starts.
@@ -96,9 +96,9 @@ pub const ERRCE_ROW: u8 = 40;
 // So many rows there are: the number of none of them.
 pub const NO_ROW: u8 = 41;
 
-// Of what is asked and of the head.
+// Of what is asked, of the head and of the requests.
 fn later_row(word: u64) -> u8
-    ensures { λ r. ⌜ Numbers r (rowsWith word (questionRows ++ headRows)) ⌝ }
+    ensures { λ r. ⌜ Numbers r (rowsWith word (questionRows ++ (headRows ++ requestRows))) ⌝ }
 {
     match word {
         ASK_PS => ASK_PS_ROW,

@@ -134,6 +134,11 @@ headRows =
     ∷ row "ERRC" e (λ f. ForHead (ClearError (f .written .digits)))
     ∷ []
 
+-- The forms that the requests of document 02 add, in the order of the requests; none yet. A row is added at the end, so that no
+-- other row's number shifts.
+abbrev pub requestRows : List Row
+requestRows = []
+
 -- a line is read whole: nothing follows the fields
 abbrev pub complete : (Fields → Order) → List ℕ → Got → Parsed
 complete o s (Here f at) = cond (eqb at (length s)) (Is (o f)) Nothing
@@ -149,9 +154,9 @@ asRow r s =
     let n = length (r .word) in
     cond (same (take n s) (r .word)) (fieldsAsRow r s n) Nothing
 
--- all the forms of document 01
+-- all the forms: those of document 01, and those of the requests
 unfoldable pub forms : List Row
-forms = startRows ++ (stopRows ++ (settingRows ++ (questionRows ++ headRows)))
+forms = startRows ++ (stopRows ++ (settingRows ++ (questionRows ++ (headRows ++ requestRows))))
 
 -- the rows that pass a test, for the laws of the table; `orderOf` has no need of it
 unfoldable pub those : (Row → Bool) → List Row → List Row

@@ -7,7 +7,7 @@ use Prim.Native.Char.{code}
 use Prim.Native.Nat.{ℕ, zero, suc, _+_, _*_, _-_, _/_, _<_, _≤_, min}
 use native.Mathlib.Nat.{add-zero, add-suc, not-suc-le-zero}
 use native.Mathlib.Omega.{arith}
-use lib.ListN.{length, take, drop, getD, drop-of-length-le}
+use lib.ListN.{length, take, drop, getD}
 use lib.Seq.{take-suc, take-all, length-take-le, getD-take}
 use lib.Dec.{eqb, ltb, leb}
 use borrow.Author.Tests.{eqb-true, eq-eqb, ne-eqb, lt-ltb, ltb-true, ltb-false, leb-true, leb-false}
@@ -16,9 +16,10 @@ use Rattle.digits.specs.Words.{word}
 use Rattle.text.specs.Text.{same, bytes}
 use Rattle.digits.proofs.PartLaws.{append-bytes, cons-bytes, none-bytes}
 use Rattle.line.specs.Forms.{Row, forms, those}
-use Rattle.form.specs.Table.{packed, rowsWith, isWord, rowsBy, Numbers}
+use Rattle.form.specs.Table.{packed, rowsWith, isWord, rowsBy, rowCount, Numbers}
 use Rattle.form.specs.Computing.{computing-form}
 use Rattle.form.specs.declared.Word.{Word}
+use Rattle.form.proofs.TableLaws.{no-rows}
 use Rattle.reader.specs.Finding.{someRow, longest, isLetter, lettersAtFront, marked, letterCount}
 
 -- Two texts that are the same are equal, and a text is the same as itself.
@@ -369,18 +370,14 @@ some-first : (rs : List Row) → someRow (take 1 rs) ≡ someRow rs
 some-first [] = refl
 some-first (r ∷ rs) = refl
 
-forms-count : length forms ≡ 41
-unfolding computing-form
-forms-count = refl
-
 -- Letters are a word where the number of their row is below that of none.
-pub number-row : (n k : ℕ) → Numbers n (rowsBy false k) → ltb n 41 ≡ someRow (rowsWith k forms)
-unfolding rowsBy
-number-row n k h = go (ltb n 41) refl
+pub number-row : (n k : ℕ) → Numbers n (rowsBy false k) → ltb n rowCount ≡ someRow (rowsWith k forms)
+unfolding rowsBy rowCount
+number-row n k h = go (ltb n rowCount) refl
   where
     same-row : someRow (rowsWith k forms) ≡ someRow (drop n forms)
     same-row = sym (some-first (rowsWith k forms)) ∙ (ap someRow (sym (h .row)) ∙ some-first (drop n forms))
 
-    go : (t : Bool) → ltb n 41 ≡ t → t ≡ someRow (rowsWith k forms)
-    go true e = rw same-row (sym (some-left n forms (rw forms-count (ltb-true n 41 e))))
-    go false e = rw (same-row, drop-of-length-le forms {i = n} (rw forms-count (ltb-false n 41 e)))
+    go : (t : Bool) → ltb n rowCount ≡ t → t ≡ someRow (rowsWith k forms)
+    go true e = rw same-row (sym (some-left n forms (ltb-true n rowCount e)))
+    go false e = rw (same-row, no-rows n (ltb-false n rowCount e))

@@ -1,73 +1,25 @@
 -- `form::making::setting_order` meets its contract. Assumes nothing.
+use native.Mathlib.Omega.{arith}
 use Rattle.form.specs.Computing.{computing-form}
 use Rattle.form.proofs.TableLaws.{rest-above}
 use Rattle.form.proofs.making.setting_order.Statement.{statement}
 use Rattle.form.proofs.making.setting_order.Tie as tie
 
-question-order-requires : tie.Need-question-order-requires
-question-order-requires c κs = rest-above 11 11 (c .before .before .before .before .args .row) (c .before .before .before .before .pre) (c .match .rest)
-
-returns : tie.Need-returns
-unfolding computing-form
-returns c = rw (c .match .keys1)
-
-returns-2 : tie.Need-returns-2
-unfolding computing-form
-returns-2 c = rw (c .match .keys2)
-
-returns-3 : tie.Need-returns-3
-unfolding computing-form
-returns-3 c = rw (c .match .keys3)
-
-returns-4 : tie.Need-returns-4
-unfolding computing-form
-returns-4 c = rw (c .match .keys4)
-
-returns-5 : tie.Need-returns-5
-unfolding computing-form
-returns-5 c = rw (c .match .keys5)
-
-returns-6 : tie.Need-returns-6
-unfolding computing-form
-returns-6 c = rw (c .match .keys6)
-
-returns-7 : tie.Need-returns-7
-unfolding computing-form
-returns-7 c = rw (c .match .keys7)
-
-returns-8 : tie.Need-returns-8
-unfolding computing-form
-returns-8 c = rw (c .match .keys8)
-
-returns-9 : tie.Need-returns-9
-unfolding computing-form
-returns-9 c = rw (c .match .keys9)
-
-returns-10 : tie.Need-returns-10
-unfolding computing-form
-returns-10 c = rw (c .match .keys10)
-
-returns-11 : tie.Need-returns-11
-unfolding computing-form
-returns-11 c = rw (c .match .keys11)
-
-returns-12 : tie.Need-returns-12
-returns-12 c = c .question-order .ensures
-
 pub setting-order-spec : {M : Type 1} → statement M
+unfolding computing-form
 setting-order-spec =
     tie.close
     (tie.spec
-    question-order-requires
-    returns
-    returns-2
-    returns-3
-    returns-4
-    returns-5
-    returns-6
-    returns-7
-    returns-8
-    returns-9
-    returns-10
-    returns-11
-    returns-12)
+    (λ c κs. rest-above 11 11 _ (omega arith) (c .match .rest))
+    (λ c. rw (c .match .keys1))
+    (λ c. rw (c .match .keys2))
+    (λ c. rw (c .match .keys3))
+    (λ c. rw (c .match .keys4))
+    (λ c. rw (c .match .keys5))
+    (λ c. rw (c .match .keys6))
+    (λ c. rw (c .match .keys7))
+    (λ c. rw (c .match .keys8))
+    (λ c. rw (c .match .keys9))
+    (λ c. rw (c .match .keys10))
+    (λ c. rw (c .match .keys11))
+    (λ c. c .question-order .ensures))
