@@ -33,7 +33,7 @@ use Rattle.laws.proofs.LastingLaws.{run-sound, ran-sound}
 -- Every drive's ticks count, whatever call comes.
 entered-counting : (c : ℕ) (t : List ℕ) (a : Account) (k : Call) → a .counting ≡ true → entered urqolina c t a k .counting ≡ true
 unfolding entered booked
-entered-counting c t a k e = go (deed c t k)
+entered-counting c t a k e = go (deed c t k) _
   where
     m : Motor
     m = motorAt t c
@@ -42,14 +42,14 @@ entered-counting c t a k e = go (deed c t k)
     either true x y p q = p
     either false x y p q = q
 
-    go : (d : Deed) {n : ℕ} → booked m n a d .counting ≡ true
-    go (D.starts s) = either (setsOff m s) (newDrive (wayOf m s) (selectedSpeed m)) a refl e
-    go (D.stops flags) = e
-    go (D.speeds v) = e
-    go (D.sets s) = e
-    go (D.reads n) = e
-    go D.ticks {n} = either (takesTicks a) (withTick a n) a e e
-    go D.rests = e
+    go : (d : Deed) (n : ℕ) → booked m n a d .counting ≡ true
+    go (D.starts s) n = either (setsOff m s) (newDrive (wayOf m s) (selectedSpeed m)) a refl e
+    go (D.stops flags) n = e
+    go (D.speeds v) n = e
+    go (D.sets s) n = e
+    go (D.reads x) n = e
+    go D.ticks n = either (takesTicks a) (withTick a n) a e e
+    go D.rests n = e
 
 -- A motor that has come some ticks on its way goes on with the ticks of a sequence, as long as it drives and nothing disturbs it.
 module _ (c : ℕ) (on : c ≤ 15) (m : Motor) (last : ℕ) (lasts : (k : ℕ) → k < last → busy (ticks k m) ≡ true) where
