@@ -1,9 +1,8 @@
 -- What the demands are stated with, computed on cases of our library: deeds, accounts, ways, read-back and last ticks. Each value
 -- was worked out from document 01 first, as the comment above it says, and is one computation. Assumes nothing.
 use Prim.Native.Nat.{ℕ, _+_, _-_}
-use Prim.Native.String as S
 use mathlib.Core.Path.{_≡_, refl}
-use mathlib.Core.List.{List, [], _∷_, map}
+use mathlib.Core.List.{List, [], _∷_, _++_, map}
 use mathlib.Core.Bool.{Bool, true, false}
 use lib.ListN.{replicate}
 use Rattle.digits.specs.Places.{origin, cw, ccw}
@@ -14,64 +13,54 @@ use Rattle.line.specs.declared.Start.the-variants.{Abs, Scan}
 use Rattle.line.specs.declared.Setting.the-variants.{Preset, SetCwLimit, SetCcwLimit, Select, SetSpeed, SetSwitches, SetMotor}
 use Rattle.line.specs.Forms.{lspd, mspd, hspd, ssend, esend, orderOf}
 use Rattle.line.specs.declared.Order.{Order}
-use Rattle.urqolina.specs.Calls.{freshCall}
 use Rattle.laws.specs.Computing.{computing-laws}
-use Rattle.laws.specs.Sequences.{Call, command, reading, tick, urqolina, ran, never}
-use Rattle.laws.specs.Deeds.{names, starts, stops, speeds, sets, reads, ticks, rests, deedTaken, deed, ticksIn}
-use Rattle.laws.specs.Ledger.{countAt, cwPulses, ccwPulses, Account, noDrive, noTravel, travelled}
+use Rattle.laws.specs.Sequences.{Call, command, reading, tick, urqolina, fromFresh, ran, never}
+use Rattle.laws.specs.Deeds.{names, starts, stops, speeds, sets, reads, ticks, rests, deedTaken, deed}
+use Rattle.laws.specs.Ledger.{countAt, cwPulses, ccwPulses, Account, noDrive, ticksIn, noTravel, travelled}
 use Rattle.laws.specs.Numbers.{asks}
 use Rattle.laws.specs.Neighbours.{ofHead}
-use Rattle.laws.specs.ReadBack.{textFor, topic, changedBy, changes, modeOrder, replyOrder, isSome, changesMode, changesReply}
+use Rattle.laws.specs.ReadBack.{textFor, topic, changedBy, changes, writesField, isSome, changesHead}
 use Rattle.laws.specs.Pulses.{accountNow, travelNow, settingsNow, disturbs, distance, lastTick}
-
--- The bytes that a fresh call is made on, and calls with what they are lent: full of AAh, so that a byte left alone shows.
-abbrev pub lentTable : List ℕ
-lentTable = replicate 1088 0xaa
-
-abbrev pub says : S.String → Call
-says s = command (bytes s) (replicate 32 0xaa)
-
-abbrev pub ticked : Call
-ticked = tick (replicate 64 0xaa)
+use Rattle.cases.proofs.Beginnings.{lent, says, ticked, ready, running, over}
 
 -- The account of channel 0 after a sequence. Fresh has MSPD selected, 800 pps: from a start on, the pulses are the thousands in
 -- 800, 1600, 2400, .., so 0, 1, 1, 1, 1.
 abbrev accountAfter : List Call → Account
-accountAfter ks = accountNow urqolina lentTable 0 ks
+accountAfter ks = accountNow urqolina lent 0 ks
 
 -- Five ticks of a scan: S = 5 · 800, P = 0 + 1 + 1 + 1 + 1. A scan lasts.
 scan-account :
-    accountAfter (says "REM" ∷ says "SCANP0" ∷ ticked ∷ ticked ∷ ticked ∷ ticked ∷ ticked ∷ [])
-    ≡ record { lasts = true; going = cw; speed = 800; sum = 4000; pulses = 4 }
+    accountAfter (ready ++ (says "SCANP0" ∷ ticked ∷ ticked ∷ ticked ∷ ticked ∷ ticked ∷ []))
+    ≡ running cw 800 4000 4
 unfolding computing-laws
 scan-account = refl
 
 -- SPC's speed is in force from the next tick on: S = 800 + 400, and the thousand in it is given, since SPC "keeps the fraction".
 speed-change-account :
-    accountAfter (says "REM" ∷ says "SCANP0" ∷ ticked ∷ says "SPC0400" ∷ ticked ∷ [])
-    ≡ record { lasts = true; going = cw; speed = 400; sum = 1200; pulses = 1 }
+    accountAfter (ready ++ (says "SCANP0" ∷ ticked ∷ says "SPC0400" ∷ ticked ∷ []))
+    ≡ running cw 400 1200 1
 unfolding computing-laws
 speed-change-account = refl
 
 -- "A stop ends the drive at once": what its one tick added stays, 800 and no pulse.
 stop-account :
-    accountAfter (says "REM" ∷ says "SCANP0" ∷ ticked ∷ says "SSTP0" ∷ [])
-    ≡ record { lasts = false; going = cw; speed = 800; sum = 800; pulses = 0 }
+    accountAfter (ready ++ (says "SCANP0" ∷ ticked ∷ says "SSTP0" ∷ []))
+    ≡ over cw 800 800 0
 unfolding computing-laws
 stop-account = refl
 
 -- A second start is a new drive: S and P begin anew.
 second-account :
-    accountAfter (says "REM" ∷ says "SCANP0" ∷ ticked ∷ says "ESTP0" ∷ says "SCANN0" ∷ [])
-    ≡ record { lasts = true; going = ccw; speed = 800; sum = 0; pulses = 0 }
+    accountAfter (ready ++ (says "SCANP0" ∷ ticked ∷ says "ESTP0" ∷ says "SCANN0" ∷ []))
+    ≡ running ccw 800 0 0
 unfolding computing-laws
 second-account = refl
 
 -- Marked case 3, "one tick, one pulse, stopped": 5,000 are due, the distance is 1, and the tick that ends the drive is one of its
 -- ticks.
 target-account :
-    accountAfter (says "REM" ∷ says "SPDM05000000" ∷ says "ABS0+1" ∷ ticked ∷ [])
-    ≡ record { lasts = false; going = cw; speed = 5000000; sum = 5000000; pulses = 1 }
+    accountAfter (ready ++ (says "SPDM05000000" ∷ says "ABS0+1" ∷ ticked ∷ []))
+    ≡ over cw 5000000 5000000 1
 unfolding computing-laws
 target-account = refl
 
@@ -80,15 +69,15 @@ local-account : accountAfter (says "SCANP0" ∷ ticked ∷ []) ≡ noDrive
 unfolding computing-laws
 local-account = refl
 
-stay-account : accountAfter (says "REM" ∷ says "REL0+0" ∷ ticked ∷ []) ≡ noDrive
+stay-account : accountAfter (ready ++ (says "REL0+0" ∷ ticked ∷ [])) ≡ noDrive
 unfolding computing-laws
 stay-account = refl
 
 -- A pulse buffer of 63 bytes: "A refused tick (5 or 6) is no tick of any drive". It adds no speed, and the AAh that it was lent
 -- are no pulses.
 refused-tick-account :
-    accountAfter (says "REM" ∷ says "SCANP0" ∷ tick (replicate 63 0xaa) ∷ [])
-    ≡ record { lasts = true; going = cw; speed = 800; sum = 0; pulses = 0 }
+    accountAfter (ready ++ (says "SCANP0" ∷ tick (replicate 63 0xaa) ∷ []))
+    ≡ running cw 800 0 0
 unfolding computing-laws
 refused-tick-account = refl
 
@@ -102,8 +91,8 @@ counts-told = (refl, refl, refl, refl, refl)
 -- The way of channel 0. At 5,000,000 pps 5,000 pulses are due with each tick, so each of these targets is reached by one: +7 from
 -- 0, 7 CW; a preset of +100 begins the way anew, and +98 from there is 2 CCW.
 way :
-    travelNow urqolina lentTable 0
-    (says "REM" ∷ says "SPDM05000000" ∷ says "ABS0+7" ∷ ticked ∷ says "PS0+100" ∷ says "ABS0+98" ∷ ticked ∷ [])
+    travelNow urqolina lent 0
+    (ready ++ (says "SPDM05000000" ∷ says "ABS0+7" ∷ ticked ∷ says "PS0+100" ∷ says "ABS0+98" ∷ ticked ∷ []))
     ≡ record { preset = origin + 100; cw = 0; ccw = 2 }
 unfolding computing-laws
 way = refl
@@ -117,13 +106,13 @@ way-on = (refl, refl)
 
 -- Tables for deeds: fresh, in local mode; in remote mode; and with channel 0 driving.
 unfoldable localTable : List ℕ
-localTable = freshCall lentTable .table
+localTable = fromFresh urqolina lent
 
 unfoldable remoteTable : List ℕ
-remoteTable = ran urqolina lentTable (says "REM" ∷ [])
+remoteTable = ran urqolina lent ready
 
 unfoldable drivingTable : List ℕ
-drivingTable = ran urqolina lentTable (says "REM" ∷ says "SCANP0" ∷ [])
+drivingTable = ran urqolina lent (ready ++ (says "SCANP0" ∷ []))
 
 abbrev plus : ℕ → Written
 plus n = record { minus = false; digits = n }
@@ -196,18 +185,18 @@ changed-by = (refl, refl, refl, refl)
 
 -- The mode is changed by an accepted LOC or REM, in both modes; all-reply by an accepted ALL_REP EN or DS, in remote mode only.
 head-changes :
-    (map (changesMode localTable) (says "REM" ∷ says "LOC" ∷ says "LOCX" ∷ says "ASSTP" ∷ []) ≡ true ∷ true ∷ false ∷ false ∷ [])
-    × (changesReply localTable (says "ALL_REP EN") ≡ false) × (changesReply remoteTable (says "ALL_REP EN") ≡ true)
+    (map (changesHead 0 localTable) (says "REM" ∷ says "LOC" ∷ says "LOCX" ∷ says "ASSTP" ∷ []) ≡ true ∷ true ∷ false ∷ false ∷ [])
+    × (changesHead 1 localTable (says "ALL_REP EN") ≡ false) × (changesHead 1 remoteTable (says "ALL_REP EN") ≡ true)
 unfolding computing-laws localTable remoteTable
 head-changes = (refl, refl, refl)
 
 -- "ends at tick D·1000/v rounded up": ABS0-3 from position 0 at 800 pps is 3 pulses away, 3.75 ticks, so the fourth. A refused
 -- tick "is not counted in the last-tick formula".
 last-tick :
-    (distance urqolina lentTable 0 [] (says "ABS0-3") (origin - 3) [] ≡ 3)
-    × (lastTick urqolina lentTable 0 [] (says "ABS0-3") (origin - 3) [] ≡ 4)
-    × (ticksIn (ticked ∷ says "PS?0" ∷ tick [] ∷ ticked ∷ reading 0 0 ∷ []) ≡ 2)
-unfolding computing-laws
+    (distance urqolina lent 0 [] (says "ABS0-3") (origin - 3) [] ≡ 3)
+    × (lastTick urqolina lent 0 [] (says "ABS0-3") (origin - 3) [] ≡ 4)
+    × (ticksIn urqolina 0 localTable noDrive (ticked ∷ says "PS?0" ∷ tick [] ∷ ticked ∷ reading 0 0 ∷ []) ≡ 2)
+unfolding computing-laws localTable
 last-tick = (refl, refl, refl)
 
 -- Orders of each kind, and a line that is none: what is a read, what is of the head, what changes the mode or all-reply, what names
@@ -223,8 +212,8 @@ ofKind test = map (λ s. isSome test (orderOf s)) kinds
 each-kind :
     (ofKind asks ≡ false ∷ false ∷ false ∷ false ∷ false ∷ true ∷ false ∷ false ∷ true ∷ false ∷ false ∷ false ∷ [])
     × (ofKind ofHead ≡ false ∷ false ∷ false ∷ false ∷ false ∷ false ∷ true ∷ true ∷ false ∷ true ∷ true ∷ false ∷ [])
-    × (ofKind modeOrder ≡ false ∷ false ∷ false ∷ false ∷ false ∷ false ∷ true ∷ false ∷ false ∷ false ∷ false ∷ false ∷ [])
-    × (ofKind replyOrder ≡ false ∷ false ∷ false ∷ false ∷ false ∷ false ∷ false ∷ true ∷ false ∷ false ∷ false ∷ false ∷ [])
+    × (ofKind (writesField 0) ≡ false ∷ false ∷ false ∷ false ∷ false ∷ false ∷ true ∷ false ∷ false ∷ false ∷ false ∷ false ∷ [])
+    × (ofKind (writesField 1) ≡ false ∷ false ∷ false ∷ false ∷ false ∷ false ∷ false ∷ true ∷ false ∷ false ∷ false ∷ false ∷ [])
     × (ofKind (names 0) ≡ true ∷ true ∷ false ∷ true ∷ true ∷ true ∷ false ∷ false ∷ false ∷ false ∷ false ∷ false ∷ [])
     × (ofKind (names 1) ≡ replicate 12 false)
 unfolding computing-laws
@@ -255,8 +244,8 @@ topics = refl
 
 -- Settings since fresh: SPDH0 selects, a reading replaces the contacts, a start that is refused (SCANP0 in local mode) does nothing.
 settings-made :
-    (settingsNow urqolina lentTable 0 (says "REM" ∷ says "SPDH0" ∷ reading 0 5 ∷ reading 1 7 ∷ []) .speeds .selected ≡ hspd)
-    × (settingsNow urqolina lentTable 0 (says "SPDH0" ∷ reading 0 5 ∷ reading 1 7 ∷ []) .speeds .selected ≡ mspd)
-    × (settingsNow urqolina lentTable 0 (reading 0 5 ∷ reading 1 7 ∷ ticked ∷ []) .wiring .contacts ≡ 5)
+    (settingsNow urqolina lent 0 (ready ++ (says "SPDH0" ∷ reading 0 5 ∷ reading 1 7 ∷ [])) .speeds .selected ≡ hspd)
+    × (settingsNow urqolina lent 0 (says "SPDH0" ∷ reading 0 5 ∷ reading 1 7 ∷ []) .speeds .selected ≡ mspd)
+    × (settingsNow urqolina lent 0 (reading 0 5 ∷ reading 1 7 ∷ ticked ∷ []) .wiring .contacts ≡ 5)
 unfolding computing-laws
 settings-made = (refl, refl, refl)

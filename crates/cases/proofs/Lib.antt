@@ -1,5 +1,6 @@
 pub mod Steps
 pub mod Marked
 pub mod Cases
+pub mod Beginnings
 pub mod LedgerCases
 pub mod WrongLibraries

@@ -11,7 +11,7 @@ use mathlib.Core.Bool.{Bool, true, false, _&&_, not, cond, false≢true}
 use lib.ListN.{length, replicate, getD}
 use lib.Dec.{eqb, leb}
 use Rattle.digits.specs.Bytes.{put}
-use Rattle.digits.specs.Words.{wordBytes, withBit, withoutBit}
+use Rattle.digits.specs.Words.{wordBytes, withoutBit}
 use Rattle.digits.specs.Places.{origin, cw}
 use Rattle.text.specs.Text.{bytes, same}
 use Rattle.record.specs.declared.Wiring.{Wiring}
@@ -21,29 +21,30 @@ use Rattle.motor.specs.Sound.{busy}
 use Rattle.drive.specs.Drives.{stopped, contacted}
 use Rattle.line.specs.declared.Start.the-variants.{Scan}
 use Rattle.line.specs.declared.Setting.the-variants.{Preset, SetCwLimit}
-use Rattle.line.specs.declared.Order.the-variants.{Stop, Mode}
+use Rattle.line.specs.declared.HeadOrder.the-variants.{Mode}
+use Rattle.line.specs.declared.Order.the-variants.{Stop, ForHead}
 use Rattle.line.specs.Forms.{ssend}
-use Rattle.table.specs.Layout.{tableSize, errors, withErrors, withAllReply, motorAt, withMotor, withMotors, freshTable}
+use Rattle.table.specs.Layout.{headOf, withHead, withReply, motorAt, withMotor, withMotors, freshTable}
 use Rattle.table.specs.Sound.{soundTable}
+use Rattle.commands.specs.Changing.{flagged}
 use Rattle.obeying.specs.Taking.{CommandAfter}
 use Rattle.urqolina.specs.Calls.{TickAfter, freshCall, commandCall, readingCall, tickCall}
 use Rattle.laws.specs.Computing.{computing-laws}
-use Rattle.laws.specs.Sequences.{Library, Call, command, reading, tick, After}
-use Rattle.laws.specs.Deeds.{Deed, starts, stops, speeds, sets, reads, ticks, rests, deed}
+use Rattle.laws.specs.Sequences.{Library, Call, command, reading, tick, After, Beginning}
+use Rattle.laws.specs.Deeds.{Deed, starts, stops, speeds, sets, reads, ticks, rests, deed, isTick}
 use Rattle.laws.specs.Ledger.{countAt, Account, Travel}
 use Rattle.laws.specs.Numbers.{Numbers, Replies}
 use Rattle.laws.specs.Neighbours.{Neighbours}
 use Rattle.laws.specs.ReadBack.{ReadsBack}
 use Rattle.laws.specs.Pulses.{motorNow, accountNow, travelNow, settingsNow, Ends, byStop, bySwitch, byTarget, byRoom, Demand3, Settled}
-use Rattle.laws.proofs.TravelLaws.{isTick}
-use Rattle.cases.proofs.LedgerCases.{lentTable, says, ticked}
+use Rattle.cases.proofs.Beginnings.{lent, says, ticked, ready, running}
 
 -- Demand 3 for every channel and every sequence, and read-back for every sequence and every read that is lent enough.
 abbrev pub AllDemand3 : Library → Type 0
-AllDemand3 l = (b : List ℕ) → length b ≡ tableSize → (c : ℕ) → c ≤ 15 → (ks : List Call) → Demand3 l b c ks
+AllDemand3 l = (b : Beginning) (c : ℕ) → c ≤ 15 → (ks : List Call) → Demand3 l b c ks
 
 abbrev pub AllReadsBack : Library → Type 0
-AllReadsBack l = (b : List ℕ) → length b ≡ tableSize → (ks : List Call) (k : Call) (later : List Call) (line reply : List ℕ)
+AllReadsBack l = (b : Beginning) (ks : List Call) (k : Call) (later : List Call) (line reply : List ℕ)
     (enough : 32 ≤ length reply) → ReadsBack l b ks k later line reply enough
 
 -- ours with another command, or another tick
@@ -54,32 +55,32 @@ abbrev pub withTick : (List ℕ → List ℕ → TickAfter) → Library
 withTick f = record { fresh = freshCall; command = commandCall; reading = readingCall; tick = f }
 
 -- Demand 3 refuses a library if one account of channel 0 shows more pulses than its speeds allow,
-too-many : (l : Library) (ks : List Call) (a : Account) → accountNow l lentTable 0 ks ≡ a → a .sum < 1000 * a .pulses → AllDemand3 l → ⊥
+too-many : (l : Library) (ks : List Call) (a : Account) → accountNow l lent 0 ks ≡ a → a .sum < 1000 * a .pulses → AllDemand3 l → ⊥
 too-many l ks a e more d =
-    let fact : 1000 * a .pulses ≤ a .sum = rw e at (d lentTable refl 0 (omega arith) ks .neverMore) in
+    let fact : 1000 * a .pulses ≤ a .sum = rw e at (d lent 0 (omega arith) ks .neverMore) in
     absurd (omega (arith, fact, more))
 
 -- or, while the drive lasts, a thousand too few,
-too-few : (l : Library) (ks : List Call) (a : Account) → accountNow l lentTable 0 ks ≡ a → a .lasts ≡ true → 1000 * a .pulses + 1000 ≤ a .sum
+too-few : (l : Library) (ks : List Call) (a : Account) → accountNow l lent 0 ks ≡ a → a .lasts ≡ true → 1000 * a .pulses + 1000 ≤ a .sum
     → AllDemand3 l → ⊥
 too-few l ks a e lasts less d =
-    let fact : a .lasts ≡ true → a .sum < 1000 * a .pulses + 1000 = rw e at (d lentTable refl 0 (omega arith) ks .neverLess) in
+    let fact : a .lasts ≡ true → a .sum < 1000 * a .pulses + 1000 = rw e at (d lent 0 (omega arith) ks .neverLess) in
     absurd (omega (arith, fact lasts, less))
 
 -- or if its place p is not what its way j comes to.
-elsewhere : (l : Library) (ks : List Call) (j : Travel) (p : ℕ) → travelNow l lentTable 0 ks ≡ j → motorNow l lentTable 0 ks .place ≡ p
+elsewhere : (l : Library) (ks : List Call) (j : Travel) (p : ℕ) → travelNow l lent 0 ks ≡ j → motorNow l lent 0 ks .place ≡ p
     → (p + j .ccw ≡ j .preset + j .cw → ⊥) → AllDemand3 l → ⊥
-elsewhere l ks j p e f other d = other (rw (e, f) at (d lentTable refl 0 (omega arith) ks .position))
+elsewhere l ks j p e f other d = other (rw (e, f) at (d lent 0 (omega arith) ks .position))
 
 -- "a library that refuses all lines": number 1 and its flag for each. The rules accept REM.
 abbrev pub refusesAll : Library
 refusesAll =
-    withCommand (λ t line reply. record { result = 1; table = withErrors t (withBit 0 (errors t)); reply = reply })
+    withCommand (λ t line reply. record { result = 1; table = flagged t 1; reply = reply })
 
 pub refuses-all-refused : Numbers refusesAll → ⊥
 unfolding computing-laws
 refuses-all-refused n =
-    let fact : _≡_ {A = ℕ} 1 0 = n .accepts freshTable (bytes "REM") (replicate 32 0xaa) (Mode 1) refl refl in
+    let fact : _≡_ {A = ℕ} 1 0 = n .accepts freshTable (bytes "REM") (replicate 32 0xaa) (ForHead (Mode 1)) refl refl in
     absurd (omega (arith, fact))
 
 -- "or answers OK to all": X has no form, and 0 may not come.
@@ -97,8 +98,8 @@ idle = withTick (λ t p. record { result = 0; table = t; pulses = replicate 64 0
 pub idle-refused : AllDemand3 idle → ⊥
 unfolding computing-laws
 idle-refused =
-    too-few idle (says "REM" ∷ says "SCANP0" ∷ ticked ∷ ticked ∷ [])
-    (record { lasts = true; going = cw; speed = 800; sum = 1600; pulses = 0 }) refl refl (omega arith)
+    too-few idle (ready ++ (says "SCANP0" ∷ ticked ∷ ticked ∷ []))
+    (running cw 800 1600 0) refl refl (omega arith)
 
 -- A tick that refuses every buffer leaves the zeros that it was lent, and is refused by the same.
 abbrev pub refusesTicks : Library
@@ -107,8 +108,8 @@ refusesTicks = withTick (λ t p. record { result = 5; table = t; pulses = p })
 pub refuses-ticks-refused : AllDemand3 refusesTicks → ⊥
 unfolding computing-laws
 refuses-ticks-refused =
-    too-few refusesTicks (says "REM" ∷ says "SCANP0" ∷ tick (replicate 64 0) ∷ tick (replicate 64 0) ∷ [])
-    (record { lasts = true; going = cw; speed = 800; sum = 1600; pulses = 0 }) refl refl (omega arith)
+    too-few refusesTicks (ready ++ (says "SCANP0" ∷ tick (replicate 64 0) ∷ tick (replicate 64 0) ∷ []))
+    (running cw 800 1600 0) refl refl (omega arith)
 
 -- a deed is a start
 abbrev pub isStart : Deed → Bool
@@ -130,13 +131,13 @@ sticks =
 pub sticks-refused : AllDemand3 sticks → ⊥
 unfolding computing-laws
 sticks-refused =
-    too-few sticks (says "REM" ∷ says "SPDH0" ∷ says "SCANP0" ∷ ticked ∷ ticked ∷ [])
-    (record { lasts = true; going = cw; speed = 1000; sum = 2000; pulses = 1 }) refl refl (omega arith)
+    too-few sticks (ready ++ (says "SPDH0" ∷ says "SCANP0" ∷ ticked ∷ ticked ∷ []))
+    (running cw 1000 2000 1) refl refl (omega arith)
 
 -- "one that runs the first drive and feigns the rest (demand 3, over any sequence)". The first drive is run: a jog by one pulse,
 -- given by its second tick.
 abbrev firstDrive : List Call
-firstDrive = says "REM" ∷ says "JOGP0" ∷ ticked ∷ ticked ∷ []
+firstDrive = ready ++ (says "JOGP0" ∷ ticked ∷ ticked ∷ [])
 
 -- Once channel 0 is away from position 0, its starts are answered OK and begin nothing.
 abbrev pub feignsStarts : Library
@@ -150,7 +151,7 @@ feignsStarts =
 pub feigns-starts-refused : AllDemand3 feignsStarts → ⊥
 unfolding computing-laws
 feigns-starts-refused d =
-    let fact : false ≡ true = d lentTable refl 0 (omega arith) firstDrive .starting (says "SCANP0") (Scan cw) refl refl in
+    let fact : false ≡ true = d lent 0 (omega arith) firstDrive .starting (says "SCANP0") (Scan cw) refl refl in
     absurd (false≢true fact)
 
 -- Or a drive stands in the table and its ticks do nothing: S = 1600, P = 0 for the second drive.
@@ -163,7 +164,7 @@ pub feigns-ticks-refused : AllDemand3 feignsTicks → ⊥
 unfolding computing-laws
 feigns-ticks-refused =
     too-few feignsTicks (firstDrive ++ (says "SCANP0" ∷ ticked ∷ ticked ∷ []))
-    (record { lasts = true; going = cw; speed = 800; sum = 1600; pulses = 0 }) refl refl (omega arith)
+    (running cw 800 1600 0) refl refl (omega arith)
 
 -- "invented pulse counts": channel 0 always gets a pulse in the buffer. The first tick at 800 pps has none, so P = 1, S = 800.
 abbrev pub inventsPulses : Library
@@ -173,7 +174,7 @@ inventsPulses =
 pub invents-pulses-refused : AllDemand3 inventsPulses → ⊥
 unfolding computing-laws
 invents-pulses-refused =
-    too-many inventsPulses (says "REM" ∷ says "SCANP0" ∷ ticked ∷ []) (record { lasts = true; going = cw; speed = 800; sum = 800; pulses = 1 }) refl
+    too-many inventsPulses (ready ++ (says "SCANP0" ∷ ticked ∷ [])) (running cw 800 800 1) refl
     (omega arith)
 
 -- Counts of the right size and the wrong sign keep both bounds: "demand 3's position sum" refuses them. After two ticks the
@@ -188,7 +189,7 @@ turnsCounts =
 pub turns-counts-refused : AllDemand3 turnsCounts → ⊥
 unfolding computing-laws
 turns-counts-refused =
-    elsewhere turnsCounts (says "REM" ∷ says "SCANP0" ∷ ticked ∷ ticked ∷ []) (record { preset = origin; cw = 0; ccw = 1 }) (origin + 1) refl
+    elsewhere turnsCounts (ready ++ (says "SCANP0" ∷ ticked ∷ ticked ∷ [])) (record { preset = origin; cw = 0; ccw = 1 }) (origin + 1) refl
     refl (λ e. absurd (omega (arith, e)))
 
 -- "or reply lengths (.. demand 2's bytes)": one more than was written. PS0+5, then PS?0: +0000005 has 8 bytes, and 9 are told.
@@ -202,7 +203,7 @@ inventsLengths =
 pub invents-lengths-refused : AllReadsBack inventsLengths → ⊥
 unfolding computing-laws
 invents-lengths-refused r =
-    let read = r lentTable refl (says "REM" ∷ []) (says "PS0+5") [] (bytes "PS?0") (replicate 32 0xaa) (omega arith) in
+    let read = r lent ready (says "PS0+5") [] (bytes "PS?0") (replicate 32 0xaa) (omega arith) in
     let told = read .setting 0 (Preset (record { minus = false; digits = 5 })) refl refl refl in
     let fact : _≡_ {A = ℕ} 2304 2048 = ap (λ (a : After). a .result) told in
     absurd (omega (arith, fact))
@@ -219,20 +220,20 @@ rounds n = withTick (λ t p. tickCall (withMotors t (carrying n)) p)
 pub rounds-to-nearest-refused : AllDemand3 (rounds 500) → ⊥
 unfolding computing-laws
 rounds-to-nearest-refused =
-    too-many (rounds 500) (says "REM" ∷ says "SCANP0" ∷ ticked ∷ []) (record { lasts = true; going = cw; speed = 800; sum = 800; pulses = 1 }) refl
+    too-many (rounds 500) (ready ++ (says "SCANP0" ∷ ticked ∷ [])) (running cw 800 800 1) refl
     (omega arith)
 
 -- At 999 pps the nearest is a pulse that comes a thousandth early.
 pub rounds-up-refused : AllDemand3 (rounds 500) → ⊥
 unfolding computing-laws
 rounds-up-refused =
-    too-many (rounds 500) (says "REM" ∷ says "SPDM0999" ∷ says "SCANP0" ∷ ticked ∷ [])
-    (record { lasts = true; going = cw; speed = 999; sum = 999; pulses = 1 }) refl (omega arith)
+    too-many (rounds 500) (ready ++ (says "SPDM0999" ∷ says "SCANP0" ∷ ticked ∷ []))
+    (running cw 999 999 1) refl (omega arith)
 
 pub rounds-down-refused : AllDemand3 (rounds 0) → ⊥
 unfolding computing-laws
 rounds-down-refused =
-    too-few (rounds 0) (says "REM" ∷ says "SCANP0" ∷ ticked ∷ ticked ∷ []) (record { lasts = true; going = cw; speed = 800; sum = 1600; pulses = 0 })
+    too-few (rounds 0) (ready ++ (says "SCANP0" ∷ ticked ∷ ticked ∷ [])) (running cw 800 1600 0)
     refl refl (omega arith)
 
 -- "Keeping the fraction over a stop, so the next drive's first pulse comes early": a start of channel 0 after an SSTP takes up the
@@ -253,8 +254,8 @@ keepsFraction =
 pub keeps-fraction-refused : AllDemand3 keepsFraction → ⊥
 unfolding computing-laws
 keeps-fraction-refused =
-    too-many keepsFraction (says "REM" ∷ says "SCANP0" ∷ ticked ∷ says "SSTP0" ∷ says "SCANP0" ∷ ticked ∷ [])
-    (record { lasts = true; going = cw; speed = 800; sum = 800; pulses = 1 }) refl (omega arith)
+    too-many keepsFraction (ready ++ (says "SCANP0" ∷ ticked ∷ says "SSTP0" ∷ says "SCANP0" ∷ ticked ∷ []))
+    (running cw 800 800 1) refl (omega arith)
 
 -- A tick that ends every drive and gives no pulse breaks neither bound; but nothing ended the drive: no stop and no reading, a scan
 -- has no target, and there is room.
@@ -262,10 +263,10 @@ abbrev pub endsDrives : Library
 endsDrives = withTick (λ t p. record { result = 0; table = withMotors t (stopped 0); pulses = replicate 64 0 })
 
 abbrev scanning : List Call
-scanning = says "REM" ∷ says "SCANP0" ∷ []
+scanning = ready ++ (says "SCANP0" ∷ [])
 
-nothing-ended : Ends endsDrives lentTable 0 scanning ticked → ⊥
-unfolding computing-laws isTick
+nothing-ended : Ends endsDrives lent 0 scanning ticked → ⊥
+unfolding computing-laws
 nothing-ended (byStop flags e f) = absurd (false≢true (sym (ap isTick e)))
 nothing-ended (bySwitch n e h f) = absurd (false≢true (sym (ap isTick e)))
 nothing-ended (byTarget e h there f) = absurd (false≢true h)
@@ -275,7 +276,7 @@ nothing-ended (byRoom e h f) =
 
 pub ends-drives-refused : AllDemand3 endsDrives → ⊥
 unfolding computing-laws
-ends-drives-refused d = nothing-ended (d lentTable refl 0 (omega arith) scanning .ending ticked refl refl)
+ends-drives-refused d = nothing-ended (d lent 0 (omega arith) scanning .ending ticked refl refl)
 
 -- A stop of channel 0 that is answered OK and stops nothing: "A stop ends the drive at once".
 abbrev pub isStop : Deed → Bool
@@ -296,7 +297,7 @@ deafToStops =
 pub deaf-to-stops-refused : AllDemand3 deafToStops → ⊥
 unfolding computing-laws
 deaf-to-stops-refused d =
-    let fact : true ≡ false = d lentTable refl 0 (omega arith) scanning .stopping (says "SSTP0") ssend refl in
+    let fact : true ≡ false = d lent 0 (omega arith) scanning .stopping (says "SSTP0") ssend refl in
     absurd (false≢true (sym fact))
 
 -- SCANP0 that is taken for SCANN0: "P is CW". After a tick at 800 pps the next one gives a pulse against the drive.
@@ -307,7 +308,7 @@ turnsScans =
 pub turns-scans-refused : AllDemand3 turnsScans → ⊥
 unfolding computing-laws
 turns-scans-refused d =
-    let fact : _≡_ {A = ℕ} 1 0 = d lentTable refl 0 (omega arith) (scanning ++ (ticked ∷ [])) .oneWay refl (replicate 64 0) refl in
+    let fact : _≡_ {A = ℕ} 1 0 = d lent 0 (omega arith) (scanning ++ (ticked ∷ [])) .oneWay refl (replicate 64 0) refl in
     absurd (omega (arith, fact))
 
 -- "Capping at the target but not at a digital limit inside the same tick; 5,000 pulses can fall in one": the counts are those that
@@ -325,19 +326,19 @@ overshoots =
 pub overshoots-refused : AllDemand3 overshoots → ⊥
 unfolding computing-laws
 overshoots-refused d =
-    let limited = says "REM" ∷ says "FL0+3" ∷ says "SETLS011110000" ∷ says "SPDM05000000" ∷ says "SCANP0" ∷ [] in
-    let fact : 5000 ≤ 3 = d lentTable refl 0 (omega arith) limited .within refl (replicate 64 0) refl .0 in
+    let limited = ready ++ (says "FL0+3" ∷ says "SETLS011110000" ∷ says "SPDM05000000" ∷ says "SCANP0" ∷ []) in
+    let fact : 5000 ≤ 3 = d lent 0 (omega arith) limited .within refl (replicate 64 0) refl .0 in
     absurd (omega (arith, fact))
 
 -- Settings and contacts that change by themselves: a tick that closes the contacts of channel 0, so that the rules would refuse
 -- every later start, and a reading that is answered 0 and forgotten.
 abbrev pub AllSettled : Library → Type 0
-AllSettled l = (b : List ℕ) → length b ≡ tableSize → (c : ℕ) → c ≤ 15 → (ks : List Call) → Settled l b c ks
+AllSettled l = (b : Beginning) (c : ℕ) → c ≤ 15 → (ks : List Call) → Settled l b c ks
 
-contacts-other : (l : Library) (ks : List Call) (n : ℕ) → motorNow l lentTable 0 ks .wiring .contacts ≡ n
-    → (n ≡ settingsNow l lentTable 0 ks .wiring .contacts → ⊥) → AllSettled l → ⊥
+contacts-other : (l : Library) (ks : List Call) (n : ℕ) → motorNow l lent 0 ks .wiring .contacts ≡ n
+    → (n ≡ settingsNow l lent 0 ks .wiring .contacts → ⊥) → AllSettled l → ⊥
 contacts-other l ks n e other d =
-    other (sym e ∙ ap (λ (w : Wiring). w .contacts) (d lentTable refl 0 (omega arith) ks .wiring))
+    other (sym e ∙ ap (λ (w : Wiring). w .contacts) (d lent 0 (omega arith) ks .wiring))
 
 abbrev pub closesContacts : Library
 closesContacts =
@@ -391,12 +392,12 @@ flagsNext =
     withCommand
     (λ t line reply.
     let a = commandCall t line reply in
-    record { result = a .result; table = cond (eqb (a .result) 1) (withErrors t (withBit 1 (errors t))) (a .table); reply = a .reply })
+    record { result = a .result; table = cond (eqb (a .result) 1) (flagged t 2) (a .table); reply = a .reply })
 
 pub flags-next-refused : Numbers flagsNext → ⊥
 unfolding computing-laws
 flags-next-refused n =
-    let left = n .flags freshTable (bytes "X") (replicate 32 0) 1 (omega arith) (omega arith) refl in
+    let left = n .flags freshTable (bytes "X") (replicate 32 0) 1 refl refl in
     let fact : _≡_ {A = ℕ} 2 1 = ap (λ (t : List ℕ). getD t 2 0) left in
     absurd (omega (arith, fact))
 
@@ -420,8 +421,8 @@ abbrev pub talks : Library
 talks =
     withCommand
     (λ t line reply.
-    let a = commandCall (withAllReply t 1) line reply in
-    record { result = a .result; table = withAllReply (a .table) 0; reply = a .reply })
+    let a = commandCall (withHead t (withReply (headOf t) 1)) line reply in
+    record { result = a .result; table = withHead (a .table) (withReply (headOf (a .table)) 0); reply = a .reply })
 
 pub talks-refused :
     ((t line reply : List ℕ) (sound : soundTable t ≡ true) (enough : 32 ≤ length reply) → Replies talks t line reply sound enough) → ⊥
@@ -438,7 +439,7 @@ swapsLimits =
 pub swaps-limits-refused : AllReadsBack swapsLimits → ⊥
 unfolding computing-laws
 swaps-limits-refused r =
-    let read = r lentTable refl (says "REM" ∷ []) (says "FL0+5") [] (bytes "FL?0") (replicate 32 0xaa) (omega arith) in
+    let read = r lent ready (says "FL0+5") [] (bytes "FL?0") (replicate 32 0xaa) (omega arith) in
     let told = read .held 0 (SetCwLimit (record { minus = false; digits = 5 })) refl refl 0 in
     let fact : _≡_ {A = ℕ} (code "1") (code "0") = ap (λ (s : List ℕ). getD s 1 0) told in
     absurd (omega (arith, fact))

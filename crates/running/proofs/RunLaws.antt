@@ -20,13 +20,13 @@ use Rattle.line.specs.declared.Parsed.{Parsed}
 use Rattle.line.specs.declared.Parsed.the-variants.{Is, Nothing}
 use Rattle.line.specs.Forms.{orderOf}
 use Rattle.replies.proofs.ReplyLaws.{echo-within, head-within, question-within}
-use Rattle.table.specs.Layout.{tableSize, mode, allReply, errors, motorAt}
+use Rattle.table.specs.Layout.{tableSize, headOf, motorAt}
 use Rattle.table.specs.Sound.{soundTable}
 use Rattle.commands.specs.Answers.{answer}
 use Rattle.commands.specs.Judging.{judge}
 use Rattle.commands.specs.Changing.{changed, flagged}
 use Rattle.obeying.specs.Taking.{CommandAfter, refused, obeyed, taken}
-use Rattle.obeying.proofs.NumberLaws.{number-most}
+use Rattle.drive.proofs.NumberLaws.{numbered}
 use Rattle.urqolina.specs.Calls.{commandCall, readingCall}
 use Rattle.jobs.specs.declared.Job.{Job}
 use Rattle.jobs.specs.declared.Job.the-variants.{Send, Touch, Wait, Unknown}
@@ -40,25 +40,22 @@ use Rattle.jobs.proofs.OutLaws.{reply-within, net-within}
 -- No reply is longer than 17 bytes, whatever the table, the line and the buffer.
 answer-within : (t : List ℕ) (o : Order) → length (answer t o) ≤ 17
 unfolding answer
-answer-within t (Go x s) = echo-within (allReply t) Done
-answer-within t (Stop x e) = echo-within (allReply t) Done
-answer-within t (StopAll e) = echo-within (allReply t) Done
-answer-within t (ChangeSpeed x v) = echo-within (allReply t) Done
-answer-within t (Set x s) = echo-within (allReply t) Done
-answer-within t (Ask x q) = question-within (mode t) x (motorAt t x) q
-answer-within t (Mode k) = echo-within (allReply t) Done
-answer-within t (AllReply k) = echo-within (allReply t) Done
-answer-within t (AskHead q) = head-within (allReply t) (errors t) q
-answer-within t ClearErrors = echo-within (allReply t) Done
-answer-within t (ClearError e) = echo-within (allReply t) Done
+answer-within t (Go x s) = echo-within (headOf t .reply) Done
+answer-within t (Stop x e) = echo-within (headOf t .reply) Done
+answer-within t (StopAll e) = echo-within (headOf t .reply) Done
+answer-within t (ChangeSpeed x v) = echo-within (headOf t .reply) Done
+answer-within t (Set x s) = echo-within (headOf t .reply) Done
+answer-within t (Ask x q) = question-within (headOf t .mode) x (motorAt t x) q
+answer-within t (AskHead q) = head-within (headOf t) q
+answer-within t (ForHead h) = echo-within (headOf t .reply) Done
 
 refused-within : (t : List ℕ) (v : Verdict) (reply : List ℕ) → refused t v reply .result / 256 ≤ 17
 unfolding refused
-refused-within t v reply = omega (arith, number-most v, echo-within (allReply (flagged t v)) v)
+refused-within t v reply = omega (arith, numbered v .small, echo-within (headOf (flagged t (numberOf v)) .reply) v)
 
 obeyed-within : (t : List ℕ) (o : Order) (reply : List ℕ) → obeyed t o reply .result / 256 ≤ 17
 unfolding obeyed
-obeyed-within t o reply = omega (arith, number-most Done, answer-within (changed t o) o)
+obeyed-within t o reply = omega (arith, numbered Done .small, answer-within (changed t o) o)
 
 taken-within : (t : List ℕ) (p : Parsed) (reply : List ℕ) → taken t p reply .result / 256 ≤ 17
 unfolding taken
