@@ -1,7 +1,9 @@
 // The table of forms: the words (words.rt), the rows that each has (rows.rt), what follows the word of a row (tails.rt) and the
-// order that the row makes (making.rt). What it must hold is line/specs/Forms.antt.
+// order that the row makes (making.rt). A row that a request adds has all of these in requests.rt. What the table must hold is
+// line/specs/Forms.antt.
 
 pub mod making;
+pub mod requests;
 pub mod rows;
 pub mod tails;
 pub mod words;

@@ -1,5 +1,6 @@
 // The order that a row makes of its fields.
 
+use crate::requests::request_order;
 use crate::rows::*;
 use digits::places::CCW;
 use digits::places::CW;
@@ -122,6 +123,6 @@ fn head_order(row: u8, f: Fields) -> Parsed
         ASK_ERR_ROW => Parsed::Is(Order::AskHead(HeadQuestion::AskError)),
         ERRC_ROW => Parsed::Is(Order::ForHead(HeadOrder::ClearErrors)),
         ERRCE_ROW => Parsed::Is(Order::ForHead(HeadOrder::ClearError(written.digits))),
-        _ => Parsed::Nothing,
+        _ => request_order(row, f),
     }
 }

@@ -1,5 +1,7 @@
 // The rows of the forms by number, in document 01's order of the lines, and the row that a word has.
 
+use crate::requests::NO_ROW;
+use crate::requests::request_row;
 use crate::words::*;
 ghost use mathlib.Core.Bool.{true, false};
 ghost use mathlib.Core.List.{_++_};
@@ -93,9 +95,6 @@ pub const ERRC_ROW: u8 = 39;
 
 pub const ERRCE_ROW: u8 = 40;
 
-// So many rows there are: the number of none of them.
-pub const NO_ROW: u8 = 41;
-
 // Of what is asked, of the head and of the requests.
 fn later_row(word: u64) -> u8
     ensures { λ r. ⌜ Numbers r (rowsWith word (questionRows ++ (headRows ++ requestRows))) ⌝ }
@@ -118,7 +117,7 @@ fn later_row(word: u64) -> u8
         ASK_ERRF => ASK_ERRF_ROW,
         ASK_ERR => ASK_ERR_ROW,
         ERRC => ERRC_ROW,
-        _ => NO_ROW,
+        _ => request_row(word),
     }
 }
 

@@ -1,5 +1,6 @@
 // What follows the word of a row.
 
+use crate::requests::request_tail;
 use crate::rows::*;
 use line::AfterX;
 use line::Tail;
@@ -55,6 +56,6 @@ pub fn tail_of(row: u8) -> Tail
         ASK_ERR_ROW => Tail::Alone,
         ERRC_ROW => Tail::Alone,
         ERRCE_ROW => Tail::OneDigit,
-        _ => Tail::NoLine,
+        _ => request_tail(row),
     }
 }

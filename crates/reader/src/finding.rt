@@ -1,7 +1,7 @@
 // The word that stands at a place of a line.
 
 use form::Word;
-use form::rows::NO_ROW;
+use form::requests::NO_ROW;
 use form::rows::first_row;
 ghost use mathlib.Core.Path.{_≡_};
 ghost use Prim.Native.Nat.{_-_, _≤_};

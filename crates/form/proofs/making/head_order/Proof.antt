@@ -1,7 +1,7 @@
 -- `form::making::head_order` meets its contract. Assumes nothing.
 use native.Mathlib.Omega.{arith}
 use Rattle.form.specs.Computing.{computing-form}
-use Rattle.form.proofs.TableLaws.{rows-passed}
+use Rattle.form.proofs.TableLaws.{rest-above}
 use Rattle.form.proofs.making.head_order.Statement.{statement}
 use Rattle.form.proofs.making.head_order.Tie as tie
 
@@ -10,6 +10,7 @@ unfolding computing-form
 head-order-spec =
     tie.close
     (tie.spec
+    (λ c κs. rest-above 32 9 _ (omega arith) (c .match .rest))
     (λ c. rw (c .match .keys1))
     (λ c. rw (c .match .keys2))
     (λ c. rw (c .match .keys3))
@@ -19,4 +20,4 @@ head-order-spec =
     (λ c. rw (c .match .keys7))
     (λ c. rw (c .match .keys8))
     (λ c. rw (c .match .keys9))
-    (λ c. rw (rows-passed 32 _ (omega arith) (c .match .rest))))
+    (λ c. c .request-order .ensures))

@@ -2,9 +2,10 @@
 use mathlib.Core.Path.{refl}
 use mathlib.Core.List.{_++_}
 use native.Mathlib.Omega.{arith}
+use borrow.Author.Needs.{needs}
 use Rattle.line.specs.Forms.{questionRows, headRows, requestRows}
 use Rattle.form.specs.Computing.{computing-form}
-use Rattle.form.proofs.TableLaws.{none-with}
+use Rattle.form.proofs.TableLaws.{none-before}
 use Rattle.form.proofs.rows.later_row.Statement.{statement}
 use Rattle.form.proofs.rows.later_row.Tie as tie
 
@@ -13,6 +14,7 @@ unfolding computing-form
 later-row-spec =
     tie.close
     (tie.spec
+    (λ c κs. search needs)
     (λ c. rw (c .match .keys1) (record { row = refl; most = omega arith }))
     (λ c. rw (c .match .keys2) (record { row = refl; most = omega arith }))
     (λ c. rw (c .match .keys3) (record { row = refl; most = omega arith }))
@@ -30,4 +32,4 @@ later-row-spec =
     (λ c. rw (c .match .keys15) (record { row = refl; most = omega arith }))
     (λ c. rw (c .match .keys16) (record { row = refl; most = omega arith }))
     (λ c. rw (c .match .keys17) (record { row = refl; most = omega arith }))
-    (λ c. rw (none-with (questionRows ++ (headRows ++ requestRows)) _ refl (c .match .rest)) (record { row = refl; most = omega arith })))
+    (λ c. rw (none-before (questionRows ++ headRows) requestRows _ refl (c .before .match .rest)) (c .request-row .ensures)))

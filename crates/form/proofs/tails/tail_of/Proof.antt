@@ -1,7 +1,7 @@
 -- `form::tails::tail_of` meets its contract. Assumes nothing.
 use native.Mathlib.Omega.{arith}
 use Rattle.form.specs.Computing.{computing-form}
-use Rattle.form.proofs.TableLaws.{rows-passed}
+use Rattle.form.proofs.TableLaws.{rest-above}
 use Rattle.form.proofs.tails.tail_of.Statement.{statement}
 use Rattle.form.proofs.tails.tail_of.Tie as tie
 
@@ -10,6 +10,7 @@ unfolding computing-form
 tail-of-spec =
     tie.close
     (tie.spec
+    (λ c κs. rest-above 0 41 _ (omega arith) (c .match .rest))
     (λ c. rw (c .match .keys1))
     (λ c. rw (c .match .keys2))
     (λ c. rw (c .match .keys3))
@@ -51,4 +52,4 @@ tail-of-spec =
     (λ c. rw (c .match .keys39))
     (λ c. rw (c .match .keys40))
     (λ c. rw (c .match .keys41))
-    (λ c. rw (rows-passed 0 _ (omega arith) (c .match .rest))))
+    (λ c. c .request-tail .ensures))

@@ -1,0 +1,12 @@
+-- `form::requests::request_tail` meets its contract. Assumes nothing.
+use Rattle.form.specs.Computing.{computing-form}
+use Rattle.form.proofs.TableLaws.{rows-passed}
+use Rattle.form.proofs.requests.request_tail.Statement.{statement}
+use Rattle.form.proofs.requests.request_tail.Tie as tie
+
+pub request-tail-spec : {M : Type 1} → statement M
+unfolding computing-form
+request-tail-spec =
+    tie.close
+    (tie.spec
+    (λ c. rw (rows-passed 41 _ (c .pre) tt)))
