@@ -25,6 +25,15 @@
 extern "C" {
 #endif
 
+/*
+ * Which library this header is of, and which table. The first is one higher with every change that a host can notice,
+ * the second where the bytes of the table have come to mean something else. A host that keeps a table over an update
+ * keeps the second with it, and makes a fresh table where it is not the same.
+ *   layout 1: a head of 64 bytes and sixteen records of 64, as document 01 has them
+ */
+#define URQOLINA_VERSION 1
+#define URQOLINA_LAYOUT 1
+
 /* The sizes of the buffers, in bytes. */
 #define URQOLINA_TABLE_SIZE 1088u  /* the table, exactly */
 #define URQOLINA_REPLY_SIZE 32u    /* the reply buffer, at least; no reply is longer than 17 bytes */

@@ -8,7 +8,7 @@ use Rattle.record.specs.declared.Motor.{Motor}
 use Rattle.record.specs.Record.{freshMotor, withLimits, withSpeeds, withWiring, withSetup}
 use Rattle.drive.specs.declared.Course.the-variants.{Stay, Beyond, To, Along}
 use Rattle.drive.specs.declared.Verdict.the-variants.{Done, NoForm, Busy, OutOfRange, LocalMode, Disabled, SwitchAhead, NoRoom, NotDriving, WrongSize, NotSound}
-use Rattle.drive.specs.Numbers.{numberOf}
+use Rattle.drive.specs.Numbers.{numberOf, isRefusal, flagBit}
 use Rattle.drive.specs.Drives.{courseTo, judgeStart, wellAimed, started, switchRead}
 use Rattle.drive.specs.Computing.{computing-drive}
 
@@ -23,6 +23,13 @@ limited : ℕ → ℕ → Motor
 limited v n =
     withLimits (withWiring (atSpeed v) (record { setls = 0b11110000; contacts = 0 }))
     (record { cw = origin + n; ccw = origin - 1000000 })
+
+-- "Numbers 1 to 4 set error flag bits 0 to 3 in turn": these are the refusals, and 0, 5 and 6 are none.
+flags :
+    (map flagBit (1 ∷ 2 ∷ 3 ∷ 4 ∷ []) ≡ 0 ∷ 1 ∷ 2 ∷ 3 ∷ [])
+    × (map isRefusal (0 ∷ 1 ∷ 2 ∷ 3 ∷ 4 ∷ 5 ∷ 6 ∷ []) ≡ false ∷ true ∷ true ∷ true ∷ true ∷ false ∷ false ∷ [])
+unfolding computing-drive
+flags = (refl, refl)
 
 -- A reading ends a drive only by the switch of its direction, with LSEND; HP and the other side end nothing.
 readings :

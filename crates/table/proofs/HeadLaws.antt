@@ -12,7 +12,7 @@ use Rattle.digits.specs.Words.{word}
 use Rattle.digits.proofs.PutLaws.{put-length}
 use Rattle.motor.proofs.SoundLaws.{and-l, and-r}
 use Rattle.table.specs.declared.head.Head.{Head}
-use Rattle.table.specs.Layout.{tableSize, headOf, headBytes, headUsed, withHead, recordStart, recordAt, motorAt}
+use Rattle.table.specs.Layout.{tableSize, headOf, headBytes, headUsed, headRest, withHead, recordStart, recordAt, motorAt}
 use Rattle.table.specs.Sound.{headInRange, soundHead, soundTable}
 use Rattle.table.proofs.PieceLaws.{part-after}
 use Rattle.table.proofs.TableLaws.{sound-length, sound-record-at, sound-head-of, sound-from}
@@ -30,7 +30,7 @@ module _ (t u : List ℕ) (same : (i n : ℕ) → i + n ≤ 64 → part u i n �
 
   pub same-sound : soundHead u ≡ soundHead t
   unfolding soundHead
-  same-sound = rw (same-head, same headUsed 61 (omega arith))
+  same-sound = rw (same-head, same headUsed headRest (omega arith))
 
 -- A head that is written is read back, and leaves every byte after its fields, the records among them.
 module _ (t : List ℕ) (h : Head) (whole : length t ≡ tableSize) where
@@ -58,15 +58,15 @@ pub head-sound : (t : List ℕ) (h : Head) → soundTable t ≡ true → headInR
 unfolding soundHead
 head-sound t h s r =
     let e = sound-length t s in
-    let zeros = and-r (headInRange (headOf t)) (allZero (part t headUsed 61)) (sound-head-of t s) in
+    let zeros = and-r (headInRange (headOf t)) (allZero (part t headUsed headRest)) (sound-head-of t s) in
     sound-from (withHead t h) (head-length t h e)
-    (rw (head-back t h e, r, head-after t h e headUsed 61 (omega arith)) zeros)
+    (rw (head-back t h e, r, head-after t h e headUsed headRest (omega arith)) zeros)
     (λ c l. rw (head-record t h e c) (sound-record-at t c s (omega arith)))
 
 -- The head of a sound table is in range, and its error flags are four bits.
 pub sound-range : (t : List ℕ) → soundTable t ≡ true → headInRange (headOf t) ≡ true
 unfolding soundHead
-sound-range t s = and-l (headInRange (headOf t)) (allZero (part t headUsed 61)) (sound-head-of t s)
+sound-range t s = and-l (headInRange (headOf t)) (allZero (part t headUsed headRest)) (sound-head-of t s)
 
 pub range-errors : (h : Head) → headInRange h ≡ true → h .errors ≤ 15
 unfolding headInRange

@@ -20,9 +20,12 @@ headOf t = record { mode = word (part t 0 1); reply = word (part t 1 1); errors 
 abbrev pub headBytes : Head → List ℕ
 headBytes h = h .mode ∷ h .reply ∷ h .errors ∷ []
 
--- how many bytes they take; "the rest zero"
+-- how many bytes they take, and how many are left; "the rest zero"
 abbrev pub headUsed : ℕ
 headUsed = 3
+
+abbrev pub headRest : ℕ
+headRest = 61
 
 -- the table with another head, and every other byte as it was
 unfoldable pub withHead : List ℕ → Head → List ℕ

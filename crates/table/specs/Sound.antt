@@ -8,7 +8,7 @@ use lib.Dec.{eqb, leb}
 use Rattle.digits.specs.Bytes.{part, every, allZero}
 use Rattle.motor.specs.Sound.{soundRecord}
 use Rattle.table.specs.declared.head.Head.{Head}
-use Rattle.table.specs.Layout.{tableSize, headOf, headUsed, records}
+use Rattle.table.specs.Layout.{tableSize, headOf, headUsed, headRest, records}
 
 -- "mode (0 local, 1 remote)", "all-reply (0 off, 1 on)", "error flags 0..15"
 unfoldable pub headInRange : Head → Bool
@@ -16,7 +16,7 @@ headInRange h = leb (h .mode) 1 && leb (h .reply) 1 && leb (h .errors) 15
 
 -- the fields of the head are in their ranges; "the rest zero"
 unfoldable pub soundHead : List ℕ → Bool
-soundHead t = headInRange (headOf t) && allZero (part t headUsed 61)
+soundHead t = headInRange (headOf t) && allZero (part t headUsed headRest)
 
 -- "A table is *sound* when ..": its length, its head and all of its records
 unfoldable pub soundTable : List ℕ → Bool

@@ -8,7 +8,7 @@ use digits::words::wide_at;
 ghost use mathlib.Core.Path.{_≡_};
 ghost use lib.ListN.{length, replicate};
 ghost use Rattle.digits.specs.Bytes.{part, put, allZero};
-ghost use Rattle.table.specs.Layout.{tableSize, headUsed, headOf, withHead, withMode, withReply, withErrors};
+ghost use Rattle.table.specs.Layout.{tableSize, headUsed, headRest, headOf, withHead, withMode, withReply, withErrors};
 ghost use Rattle.table.specs.Sound.{headInRange, soundHead};
 
 // The mode: 0 local, 1 remote. All-reply: 0 off, 1 on. The error flags: 0 to 15.
@@ -75,7 +75,7 @@ fn head_in_range(h: Head) -> bool
 // Whether the bytes of the head that no field has, 3 to 63, are zero: byte 3, a word of four bytes, and then words of eight.
 fn head_zero(t: &[u8]) -> bool
     requires { ⌜ length (now t) ≡ tableSize ⌝ }
-    ensures { λ r. ⌜ r ≡ allZero (part (now (t .entry)) headUsed 61) ⌝ }
+    ensures { λ r. ⌜ r ≡ allZero (part (now (t .entry)) headUsed headRest) ⌝ }
 {
     let mut k: usize = 1;
     while k < 8 {
