@@ -1,20 +1,19 @@
 -- The heads that orders and refusals leave are in range. Assumes nothing.
 use mathlib.Core.Path.{_≡_, refl}
-use mathlib.Core.Bool.{Bool, true, false, _&&_, cond}
+use mathlib.Core.Bool.{Bool, true, false, cond}
 use Prim.Native.Nat.{ℕ, zero, suc, _+_, _-_, _/_, _%_, _^_, _≤_}
 use native.Mathlib.Omega.{arith}
-use lib.Dec.{eqb, leb}
+use lib.Dec.{eqb}
 use borrow.Author.Tests.{eqb-false, le-leb}
 use Rattle.digits.specs.Words.{isSet, withBit, withoutBit}
-use Rattle.motor.proofs.SoundLaws.{and-l, and-r}
 use Rattle.drive.specs.Numbers.{flagBit}
 use Rattle.line.specs.declared.HeadOrder.{HeadOrder}
 use Rattle.line.specs.declared.HeadOrder.the-variants.{Mode, AllReply, ClearErrors, ClearError}
 use Rattle.line.specs.Made.{headMade}
 use Rattle.table.specs.declared.head.Head.{Head}
-use Rattle.table.specs.Layout.{withErrors}
+use Rattle.table.specs.Layout.{withMode, withReply, withErrors}
 use Rattle.table.specs.Sound.{headInRange}
-use Rattle.table.proofs.HeadLaws.{range-errors}
+use Rattle.table.proofs.HeadLaws.{range-parts, parts-range, range-errors}
 use Rattle.commands.specs.Changing.{headChanged}
 
 -- The error flags stay within 0 to 15, whichever of the four bits is set or cleared.
@@ -63,20 +62,18 @@ bit-bound n = go (eqb n 1) (eqb n 2) (eqb n 3)
 
 -- A head in range with other error flags in range is in range.
 errors-range : (h : Head) (n : ℕ) → headInRange h ≡ true → n ≤ 15 → headInRange (withErrors h n) ≡ true
-unfolding headInRange
-errors-range h n r b = rw (and-l (leb (h .mode) 1 && leb (h .reply) 1) (leb (h .errors) 15) r) (le-leb n 15 b)
+errors-range h n r b =
+    let p = range-parts h r in
+    let errors = le-leb n 15 b in
+    parts-range (withErrors h n) (search)
 
 -- So is the head that a refusal leaves, and the one that an order of a line leaves.
 pub flagged-range : (h : Head) (n : ℕ) → headInRange h ≡ true → headInRange (withErrors h (withBit (flagBit n) (h .errors))) ≡ true
 flagged-range h n r = errors-range h _ r (set-bound (flagBit n) (h .errors) (bit-bound n) (range-errors h r))
 
 pub changed-range : (h : Head) (o : HeadOrder) → headInRange h ≡ true → headMade o ≡ true → headInRange (headChanged h o) ≡ true
-unfolding headChanged headInRange
-changed-range h (Mode k) r m =
-    let front = and-l (leb (h .mode) 1 && leb (h .reply) 1) (leb (h .errors) 15) r in
-    rw (m, and-r (leb (h .mode) 1) (leb (h .reply) 1) front) (and-r (leb (h .mode) 1 && leb (h .reply) 1) (leb (h .errors) 15) r)
-changed-range h (AllReply k) r m =
-    let front = and-l (leb (h .mode) 1 && leb (h .reply) 1) (leb (h .errors) 15) r in
-    rw (and-l (leb (h .mode) 1) (leb (h .reply) 1) front, m) (and-r (leb (h .mode) 1 && leb (h .reply) 1) (leb (h .errors) 15) r)
+unfolding headChanged
+changed-range h (Mode k) r m = let p = range-parts h r in parts-range (withMode h k) (search)
+changed-range h (AllReply k) r m = let p = range-parts h r in parts-range (withReply h k) (search)
 changed-range h ClearErrors r m = errors-range h 0 r (omega arith)
 changed-range h (ClearError e) r m = errors-range h (withoutBit e (h .errors)) r (cleared-bound e (h .errors) (range-errors h r))

@@ -10,10 +10,9 @@ use borrow.Author.Tests.{ne-eqb, eqb-true, eqb-false}
 use Rattle.digits.specs.Bytes.{AllBytes, part, put}
 use Rattle.record.specs.declared.Motor.{Motor}
 use Rattle.record.specs.Record.{motorOf, recordOf}
-use Rattle.motor.specs.Sound.{busy}
+use Rattle.motor.specs.Sound.{busy, moving}
 use Rattle.drive.specs.Drives.{stopped}
 use Rattle.pulses.specs.Ticks.{tickMotor}
-use Rattle.motor.proofs.MovingLaws.{idle-still}
 use Rattle.pulses.proofs.Laws.{stopped-given-none}
 use Rattle.drive.proofs.Laws.{stopped-again}
 use Rattle.line.specs.declared.Order.{Order}
@@ -108,11 +107,11 @@ still : (t line reply : List ℕ) (o : Order) (flags d : ℕ) → AllBytes t →
 still t line reply o flags d bytes h e q stands =
     command-left t line reply o d e (rw q) (λ s f k. (h, rw (stopped-again f (motorAt t d) stands) (written-back t d s bytes h)))
 
--- A tick leaves it too.
-unticked : (t p : List ℕ) (d : ℕ) → AllBytes t → d ≤ 15 → busy (motorAt t d) ≡ false → recordAt (tickCall t p .table) d ≡ recordAt t d
+-- A tick leaves that of a motor that does not move.
+unticked : (t p : List ℕ) (d : ℕ) → AllBytes t → d ≤ 15 → moving (motorAt t d) ≡ false → recordAt (tickCall t p .table) d ≡ recordAt t d
 unticked t p d bytes h stands =
     tick-ways (λ a. recordAt (a .table) d ≡ recordAt t d) t p (λ n i. refl)
-    (λ s. motors-record t (λ m. tickMotor m .motor) d (sound-length t s) h ∙ rw (stopped-given-none (motorAt t d) (idle-still (motorAt t d) stands)) (written-back t d s bytes h))
+    (λ s. motors-record t (λ m. tickMotor m .motor) d (sound-length t s) h ∙ rw (stopped-given-none (motorAt t d) stands) (written-back t d s bytes h))
 
 -- An order that names channel x is nothing to the others.
 elsewhere : (y x d : ℕ) (k : Deed) → eqb y x ≡ true → (d ≡ x → ⊥) → deedIf (eqb y d) k ≡ rests

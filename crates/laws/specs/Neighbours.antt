@@ -4,7 +4,7 @@ use mathlib.Core.List.{List}
 use mathlib.Core.Bool.{Bool, true, false}
 use Prim.Native.Nat.{ℕ, _%_, _≤_}
 use Rattle.digits.specs.Bytes.{AllBytes, part}
-use Rattle.motor.specs.Sound.{busy}
+use Rattle.motor.specs.Sound.{busy, moving}
 use Rattle.line.specs.declared.Order.{Order}
 use Rattle.line.specs.declared.Order.the-variants.{Go, Stop, StopAll, ChangeSpeed, Set, Ask, AskHead, ForHead}
 use Rattle.line.specs.declared.Parsed.the-variants.{Is}
@@ -36,8 +36,8 @@ pub record Neighbours (l : Library) : Type 0 where
   -- ASSTP, AESTP, and "a stop on a stopped motor", leave a record that stands stopped; the table is bytes, as memory is
   pub stopped : (t line reply : List ℕ) (o : Order) (flags d : ℕ) → AllBytes t → d ≤ 15 → orderOf line ≡ Is o → deedOf d o ≡ stops flags
       → busy (motorAt t d) ≡ false → recordAt (l .command t line reply .table) d ≡ recordAt t d
-  -- a tick leaves such a record too
-  pub unticked : (t p : List ℕ) (d : ℕ) → AllBytes t → d ≤ 15 → busy (motorAt t d) ≡ false → recordAt (l .tick t p .table) d ≡ recordAt t d
+  -- a tick leaves that of a motor that does not move
+  pub unticked : (t p : List ℕ) (d : ℕ) → AllBytes t → d ≤ 15 → moving (motorAt t d) ≡ false → recordAt (l .tick t p .table) d ≡ recordAt t d
   -- a switch reading leaves every record but its channel's
   pub readings : (t : List ℕ) (c n d : ℕ) → (d ≡ c → ⊥) → recordAt (l .reading t c n .table) d ≡ recordAt t d
   -- an accepted order that is not of the head leaves the head, and so do readings and ticks

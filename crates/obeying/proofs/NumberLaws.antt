@@ -1,7 +1,7 @@
 -- The numbers that a line can be answered with: what judges an order gives 0, or the number of a refusal. Assumes nothing.
-use mathlib.Core.Path.{_≡_, refl}
+use mathlib.Core.Path.{_≡_, refl, sym}
 use mathlib.Core.List.{List}
-use mathlib.Core.Bool.{Bool, true, false, _&&_, _||_, not, cond}
+use mathlib.Core.Bool.{Bool, true, false, _&&_, _||_, not, cond, false≢true}
 use Prim.Native.Nat.{ℕ, _%_}
 use native.Mathlib.Omega.{arith}
 use lib.Dec.{eqb}
@@ -83,7 +83,11 @@ judge-judged t o =
 
 -- So an order that is not done is refused.
 pub refused-judged : (t : List ℕ) (o : Order) → eqb (numberOf (judge t o)) 0 ≡ false → isRefusal (numberOf (judge t o)) ≡ true
-refused-judged t o e = rw e at (judge-judged t o)
+refused-judged t o e = go (eqb (numberOf (judge t o)) 0) (isRefusal (numberOf (judge t o))) e (judge-judged t o)
+  where
+    go : (done refused : Bool) → done ≡ false → (done || refused) ≡ true → refused ≡ true
+    go true refused e h = absurd (false≢true (sym e))
+    go false refused e h = h
 
 -- "The command's result is the number plus 256 times the reply length."
 pub refused-number : (t : List ℕ) (v : Verdict) (reply : List ℕ) → refused t v reply .result % 256 ≡ numberOf v

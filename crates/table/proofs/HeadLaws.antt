@@ -1,11 +1,12 @@
--- The head by value: what is there after it is written, what a write of it leaves, and what leaves it. Only `same-head` and
--- `head-back` know its fields. Assumes nothing.
+-- The head by value: what is there after it is written, what a write of it leaves, and what leaves it. Only `same-head`,
+-- `head-back` and the parts of its range know its fields. Assumes nothing.
 use mathlib.Core.Path.{_≡_, _∙_}
 use mathlib.Core.List.{List, [], _∷_}
 use mathlib.Core.Bool.{true, _&&_}
 use Prim.Native.Nat.{ℕ, _+_, _≤_}
 use native.Mathlib.Omega.{arith}
 use lib.ListN.{length}
+use lib.Dec.{leb}
 use borrow.Author.Tests.{leb-true}
 use Rattle.digits.specs.Bytes.{part, put, allZero}
 use Rattle.digits.specs.Words.{word}
@@ -63,11 +64,25 @@ head-sound t h s r =
     (rw (head-back t h e, r, head-after t h e headUsed headRest (omega arith)) zeros)
     (λ c l. rw (head-record t h e c) (sound-record-at t c s (omega arith)))
 
--- The head of a sound table is in range, and its error flags are four bits.
+-- The head of a sound table is in range.
 pub sound-range : (t : List ℕ) → soundTable t ≡ true → headInRange (headOf t) ≡ true
 unfolding soundHead
 sound-range t s = and-l (headInRange (headOf t)) (allZero (part t headUsed headRest)) (sound-head-of t s)
 
-pub range-errors : (h : Head) → headInRange h ≡ true → h .errors ≤ 15
+-- The range of a head by its parts, for whoever changes one of them: `search` puts the others back.
+pub record HeadRange (h : Head) : Type 0 where
+  pub mode : leb (h .mode) 1 ≡ true
+  pub reply : leb (h .reply) 1 ≡ true
+  pub errors : leb (h .errors) 15 ≡ true
+
+pub range-parts : (h : Head) → headInRange h ≡ true → HeadRange h
 unfolding headInRange
-range-errors h r = search (and-l, and-r, leb-true)
+range-parts h r = search (and-l, and-r)
+
+pub parts-range : (h : Head) → HeadRange h → headInRange h ≡ true
+unfolding headInRange
+parts-range h p = rw (p .mode, p .reply, p .errors)
+
+-- The error flags are four bits.
+pub range-errors : (h : Head) → headInRange h ≡ true → h .errors ≤ 15
+range-errors h r = leb-true (h .errors) 15 (range-parts h r .errors)

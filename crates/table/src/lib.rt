@@ -7,12 +7,12 @@ use digits::places::ORIGIN;
 use head::sound_head;
 use head::zero_head;
 use motor::sound_record;
-use record::Drive;
 use record::Limits;
 use record::Motor;
 use record::Setup;
 use record::Speeds;
 use record::Wiring;
+use record::no_drive;
 use record::read_motor;
 use record::write_drive;
 use record::write_motor;
@@ -22,7 +22,7 @@ ghost use Prim.Native.Nat.{_≤_};
 ghost use lib.Dec.{eqb};
 ghost use lib.ListN.{length};
 ghost use Rattle.digits.specs.Bytes.{put, every, gather};
-ghost use Rattle.record.specs.Record.{recordOf, freshMotor, standing};
+ghost use Rattle.record.specs.Record.{recordOf, freshMotor};
 ghost use Rattle.record.specs.Progress.{flagsAndDrive, progressed};
 ghost use Rattle.motor.specs.Sound.{soundRecord};
 ghost use Rattle.table.specs.Layout.{tableSize, recordStart, recordAt, records, motorAt, withMotor, freshTable};
@@ -116,19 +116,6 @@ pub fn sound_table(t: &[u8]) -> bool
         }
     } else {
         false
-    }
-}
-
-// No drive.
-fn no_drive() -> Drive
-    ensures { λ r. ⌜ r ≡ standing ⌝ }
-{
-    Drive {
-        going: 0,
-        kind: 0,
-        fraction: 0,
-        speed: 0,
-        target: ORIGIN,
     }
 }
 

@@ -1,6 +1,6 @@
+-- `drive::hindrance_to` meets its contract. Assumes nothing.
 use native.Mathlib.Omega.{arith}
 use mathlib.Core.Path.{_≡_}
--- `drive::hindrance_to` meets its contract. Assumes nothing.
 use borrow.Author.Tests.{eq-eqb, ne-eqb}
 use Rattle.drive.specs.Drives.{hindrance}
 use borrow.Author.Needs.{needs}
