@@ -36,13 +36,13 @@ zero-next t k h =
     let at : 8 + (8 * k - 8) ≡ 8 * k = omega arith in
     rw (n, part-add t 8 (8 * k - 8) 8, zero-append, at, word-zero (part t (8 * k) 8))
 
--- Where eight of the bytes of the head from 8 on are not zero, those from 3 on are not.
-pub zero-fails : (t : List ℕ) (k : ℕ) → 1 ≤ k → k < 8 → eqb (word (part t (8 * k) 8)) 0 ≡ false → allZero (part t 3 61) ≡ false
-zero-fails t k h l e =
-    let n : 61 ≡ 8 * k - 3 + (8 + (56 - 8 * k)) = omega arith in
-    let at : 3 + (8 * k - 3) ≡ 8 * k = omega arith in
-    rw (n, part-add t 3 (8 * k - 3) (8 + (56 - 8 * k)), zero-append, at, zero-part t (8 * k) 8 (56 - 8 * k), e)
-    (and-false (allZero (part t 3 (8 * k - 3))))
+-- Where eight of the bytes of the head from 8 on are not zero, those from an earlier one on are not.
+pub zero-fails : (t : List ℕ) (from k : ℕ) → from ≤ 8 → 1 ≤ k → k < 8 → eqb (word (part t (8 * k) 8)) 0 ≡ false → allZero (part t from (64 - from)) ≡ false
+zero-fails t from k f h l e =
+    let n : 64 - from ≡ 8 * k - from + (8 + (56 - 8 * k)) = omega arith in
+    let at : from + (8 * k - from) ≡ 8 * k = omega arith in
+    rw (n, part-add t from (8 * k - from) (8 + (56 - 8 * k)), zero-append, at, zero-part t (8 * k) 8 (56 - 8 * k), e)
+    (and-false (allZero (part t from (8 * k - from))))
 
 -- the first k words of four bytes zeroed
 unfoldable pub zeroedTo : List ℕ → ℕ → List ℕ

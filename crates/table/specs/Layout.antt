@@ -1,5 +1,5 @@
 -- Document 01, "The table: 1,088 bytes".
-use Prim.Native.Nat.{ℕ, _+_, _*_}
+use Prim.Native.Nat.{ℕ, _+_, _*_, _-_}
 use mathlib.Core.List.{List, [], _∷_, _++_, flatMap}
 use lib.ListN.{take, drop, replicate}
 use Rattle.digits.specs.Bytes.{part, put, pieces, gather}
@@ -25,7 +25,7 @@ abbrev pub headUsed : ℕ
 headUsed = 3
 
 abbrev pub headRest : ℕ
-headRest = 61
+headRest = 64 - headUsed
 
 -- the table with another head, and every other byte as it was
 unfoldable pub withHead : List ℕ → Head → List ℕ

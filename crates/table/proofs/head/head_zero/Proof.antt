@@ -11,6 +11,7 @@ use Rattle.digits.specs.Words.{word}
 use Rattle.digits.specs.Bytes.{part}
 use Rattle.digits.proofs.WordLaws.{zero-part}
 use Rattle.motor.proofs.SoundLaws.{and-true}
+use Rattle.table.specs.Layout.{headUsed}
 use Rattle.table.proofs.LoopLaws.{zeroTo, zero-first, zero-next, zero-fails}
 use Rattle.table.proofs.head.head_zero.Statement.{statement}
 use Rattle.table.proofs.head.head_zero.Tie as tie
@@ -46,7 +47,7 @@ returns c =
     let l = c .before .before .before in
     let t = l .before .before .args .t .now in
     let k = l .loop .k in
-    sym (zero-fails t k (omega arith) (omega arith) (rw (← c .before .wide-at .ensures) (ne-eqb _ _ (c .if1 .left))))
+    sym (zero-fails t headUsed k (omega arith) (omega arith) (omega arith) (rw (← c .before .wide-at .ensures) (ne-eqb _ _ (c .if1 .left))))
 
 byte-at-requires : tie.Need-byte-at-requires Inv-loop μ-loop
 byte-at-requires c κs = search needs
