@@ -9,9 +9,9 @@ use lib.Dec.{eqb}
 use borrow.Author.Tests.{eqb-true}
 use Rattle.digits.specs.Bytes.{AllBytes, allZero}
 use Rattle.record.specs.declared.Motor.{Motor}
-use Rattle.record.specs.Record.{motorOf, recordOf}
+use Rattle.record.specs.Record.{motorOf, recordOf, restZero}
 use Rattle.record.proofs.RoundTrip.{FitsRecord, FitsBytes, written-read, read-written, record-length, record-bytes, rest-part}
-use Rattle.motor.specs.Sound.{busy, soundMotor, restSound, soundRecord}
+use Rattle.motor.specs.Sound.{busy, soundMotor, soundRecord}
 use Rattle.motor.proofs.SoundLaws.{and-l, and-r, sound-bounds, sound-busy, sound-standing}
 
 -- The speed in force of a sound motor is 5,000,000 at most, driving or not.
@@ -37,7 +37,7 @@ sound-written-read m s = written-read m (sound-fits m s)
 pub sound-read-written : (b : List ℕ) → soundRecord b ≡ true → AllBytes b → recordOf (motorOf b) ≡ b
 unfolding soundRecord
 sound-read-written b s bytes =
-    read-written b (eqb-true (length b) 64 (and-l _ _ (and-l _ (restSound b) s))) bytes (and-r (eqb (length b) 64 && soundMotor (motorOf b)) _ s)
+    read-written b (eqb-true (length b) 64 (and-l _ _ (and-l _ (restZero b) s))) bytes (and-r (eqb (length b) 64 && soundMotor (motorOf b)) _ s)
 
 -- The record of a sound motor is sound, and its bytes are bytes; and a sound record holds a sound motor.
 pub record-sound : (m : Motor) → soundMotor m ≡ true → soundRecord (recordOf m) ≡ true
@@ -49,4 +49,4 @@ sound-record-bytes m s = record-bytes m (sound-fits-bytes m s)
 
 pub record-motor-sound : (b : List ℕ) → soundRecord b ≡ true → soundMotor (motorOf b) ≡ true
 unfolding soundRecord
-record-motor-sound b s = and-r (eqb (length b) 64) _ (and-l _ (restSound b) s)
+record-motor-sound b s = and-r (eqb (length b) 64) _ (and-l _ (restZero b) s)

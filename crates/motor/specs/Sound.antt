@@ -5,7 +5,6 @@ use mathlib.Core.List.{List}
 use mathlib.Core.Bool.{Bool, _&&_, _||_, not, cond}
 use lib.ListN.{length}
 use lib.Dec.{eqb, leb}
-use Rattle.digits.specs.Bytes.{part, allZero}
 use Rattle.digits.specs.Words.{isSet}
 use Rattle.digits.specs.Places.{origin, isPosition, ahead}
 use Rattle.record.specs.declared.Limits.{Limits}
@@ -14,7 +13,7 @@ use Rattle.record.specs.declared.Wiring.{Wiring}
 use Rattle.record.specs.declared.Setup.{Setup}
 use Rattle.record.specs.declared.Drive.{Drive}
 use Rattle.record.specs.declared.Motor.{Motor}
-use Rattle.record.specs.Record.{motorOf}
+use Rattle.record.specs.Record.{motorOf, restZero}
 use Rattle.motor.specs.Switches.{blocked, room}
 
 -- "Speeds run from 1 to 5,000,000 pulses per second"
@@ -85,10 +84,6 @@ moving m = busy m
 unfoldable pub soundMotor : Motor → Bool
 soundMotor m = inRange m && cond (busy m) (underWay m) (atRest (m .drive))
 
--- "every byte given as zero is zero": 44 to 63; the one place where the bytes after the drive are judged
-abbrev pub restSound : List ℕ → Bool
-restSound b = allZero (part b 44 20)
-
--- a record is sound: 64 bytes, a sound motor in them, and a sound rest
+-- a record is sound: 64 bytes, a sound motor in them, and "every byte given as zero is zero"
 unfoldable pub soundRecord : List ℕ → Bool
-soundRecord b = eqb (length b) 64 && soundMotor (motorOf b) && restSound b
+soundRecord b = eqb (length b) 64 && soundMotor (motorOf b) && restZero b

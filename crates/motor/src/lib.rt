@@ -24,14 +24,14 @@ ghost use Prim.Native.Nat.{_≤_};
 ghost use lib.Dec.{eqb, leb};
 ghost use lib.Bits.{bitAnd};
 ghost use lib.ListN.{length};
-ghost use Rattle.digits.specs.Bytes.{part};
+ghost use Rattle.digits.specs.Bytes.{part, allZero};
 ghost use Rattle.digits.specs.Words.{word};
 ghost use Rattle.digits.specs.Places.{origin, isPosition, ahead};
-ghost use Rattle.record.specs.Record.{motorOf};
+ghost use Rattle.record.specs.Record.{motorOf, restZero};
 ghost use Rattle.motor.specs.Switches.{switchOf, active, blocked, edge, room};
 ghost use Rattle.motor.specs.Sound.{isSpeed, limitsInRange, wiringInRange, setupInRange, settingsInRange};
 ghost use Rattle.motor.specs.Sound.{endFlagsInRange, driveInRange, atRest, underWay};
-ghost use Rattle.motor.specs.Sound.{busy, moving, soundMotor, restSound, soundRecord};
+ghost use Rattle.motor.specs.Sound.{busy, moving, soundMotor, soundRecord};
 
 // The switch that a direction runs into, by its bit: 0 CW, 1 CCW.
 fn switch_of(going: u8) -> u8
@@ -263,10 +263,22 @@ fn drive_sound(m: Motor) -> bool
     }
 }
 
-// Whether the bytes after the drive are sound, 44 to 63: they are zero.
-fn rest_sound(b: &[u8]) -> bool
+// Whether the bytes of the drive, 32 to 43, are zero.
+fn drive_zero(b: &[u8]) -> bool
     requires { ⌜ length (now b) ≡ 64 ⌝ }
-    ensures { λ r. ⌜ r ≡ restSound (now (b .entry)) ⌝ }
+    ensures { λ r. ⌜ r ≡ allZero (part (now (b .entry)) 32 12) ⌝ }
+{
+    if wide_at(b, 32) == 0 {
+        long_at(b, 40) == 0
+    } else {
+        false
+    }
+}
+
+// Whether the bytes that no topic has, 44 to 63, are zero.
+fn rest_zero(b: &[u8]) -> bool
+    requires { ⌜ length (now b) ≡ 64 ⌝ }
+    ensures { λ r. ⌜ r ≡ restZero (now (b .entry)) ⌝ }
 {
     if long_at(b, 44) == 0 {
         if wide_at(b, 48) == 0 {
@@ -279,17 +291,13 @@ fn rest_sound(b: &[u8]) -> bool
     }
 }
 
-// Whether 64 bytes hold a sound motor. Most motors stand, and so have zeros in bytes 32 to 43; then nothing else is asked there.
+// Whether 64 bytes hold a sound motor. Most motors stand, and so have no drive; then only their settings are judged.
 fn motor_sound(b: &[u8]) -> bool
     requires { ⌜ length (now b) ≡ 64 ⌝ }
     ensures { λ r. ⌜ r ≡ soundMotor (motorOf (now (b .entry))) ⌝ }
 {
-    if wide_at(b, 32) == 0 {
-        if long_at(b, 40) == 0 {
-            settings_sound(b)
-        } else {
-            false
-        }
+    if drive_zero(b) {
+        settings_sound(b)
     } else if settings_sound(b) {
         drive_sound(read_motor(b))
     } else {
@@ -302,7 +310,7 @@ fn sound_bytes(b: &[u8]) -> bool
     requires { ⌜ length (now b) ≡ 64 ⌝ }
     ensures { λ r. ⌜ r ≡ soundRecord (now (b .entry)) ⌝ }
 {
-    if rest_sound(b) { motor_sound(b) } else { false }
+    if rest_zero(b) { motor_sound(b) } else { false }
 }
 
 // Whether bytes are a sound record: bytes of any number and any value are judged.

@@ -7,7 +7,7 @@ use Prim.Native.Nat.{ℕ, zero, suc, _+_, _≤_, _<_}
 use native.Mathlib.Omega.{arith}
 use lib.ListN.{length, getD, replicate}
 use lib.Seq.{getD-take, getD-drop}
-use Rattle.digits.specs.Bytes.{AllBytes, part, joined, allZero}
+use Rattle.digits.specs.Bytes.{AllBytes, part, joined}
 use Rattle.digits.specs.Words.{word, wordBytes}
 use Rattle.digits.specs.Places.{placeOf, wordOf}
 use Rattle.digits.proofs.PartLaws.{append-bytes, cons-bytes, none-bytes, zeros-bytes, part-length, part-add, part-bytes, part-one, zero-bytes, part-whole, cut-joined}
@@ -17,7 +17,7 @@ use Rattle.record.specs.declared.Limits.{Limits}
 use Rattle.record.specs.declared.Speeds.{Speeds}
 use Rattle.record.specs.declared.Drive.{Drive}
 use Rattle.record.specs.declared.Motor.{Motor}
-use Rattle.record.specs.Record.{byteAt, shortAt, longAt, placeAt, limitsOf, speedsOf, wiringOf, setupOf, driveOf, motorOf, placeBytes, limitBytes, speedBytes, wiringBytes, setupBytes, settingBytes, goingByte, driveBytes, restBytes, recordOf, standing}
+use Rattle.record.specs.Record.{byteAt, shortAt, longAt, placeAt, limitsOf, speedsOf, wiringOf, setupOf, driveOf, motorOf, placeBytes, limitBytes, speedBytes, wiringBytes, setupBytes, settingBytes, goingByte, driveBytes, restBytes, restZero, recordOf, standing}
 
 -- every number of a motor fits the bytes that it is written in, as the types of the code have it
 pub record FitsRecord (m : Motor) : Type 0 where
@@ -139,11 +139,11 @@ module _ (b : List ℕ) (whole : length b ≡ 64) (bytes : AllBytes b) where
       rw (word-back 34 2 (omega arith), word-back 36 4 (omega arith), place-back 40 (omega arith), cut-joined (2 ∷ 4 ∷ 4 ∷ []) b 34, cons-back 33 10 (omega arith))
       (cons-back 32 11 (omega arith))
 
-  rest-back : allZero (part b 44 20) ≡ true → restBytes (motorOf b) ≡ part b 44 20
+  rest-back : restZero b ≡ true → restBytes (motorOf b) ≡ part b 44 20
   rest-back z = rw (zero-bytes (part b 44 20) z, part-length b 44 20 (omega arith))
 
   -- Read and written back is the same bytes, where those that no topic has are zero.
-  pub read-written : allZero (part b 44 20) ≡ true → recordOf (motorOf b) ≡ b
+  pub read-written : restZero b ≡ true → recordOf (motorOf b) ≡ b
   unfolding recordOf motorOf
   read-written z =
       rw (settings-back, byte-back 31 (omega arith), drive-back, rest-back z) (cut-joined (31 ∷ 1 ∷ 12 ∷ 20 ∷ []) b 0 ∙ rw (← whole) (part-whole b))

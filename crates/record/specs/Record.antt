@@ -1,8 +1,9 @@
 -- Document 01, "The table": one record of 64 bytes, read out and written back, and the record of a fresh table.
 use Prim.Native.Nat.{ℕ, _+_, _-_}
 use mathlib.Core.List.{List, [], _∷_}
+use mathlib.Core.Bool.{Bool}
 use lib.ListN.{replicate}
-use Rattle.digits.specs.Bytes.{part, joined}
+use Rattle.digits.specs.Bytes.{part, joined, allZero}
 use Rattle.digits.specs.Words.{word, wordBytes}
 use Rattle.digits.specs.Places.{origin, placeOf, wordOf}
 use Rattle.record.specs.declared.Limits.{Limits}
@@ -105,6 +106,10 @@ driveBytes d =
 -- "44-63 | zero": what is written after the drive
 abbrev pub restBytes : Motor → List ℕ
 restBytes m = replicate 20 0
+
+-- "every byte given as zero is zero": those of a record that no topic has
+abbrev pub restZero : List ℕ → Bool
+restZero b = allZero (part b 44 20)
 
 -- the record of a motor: the topics in the order of their bytes
 unfoldable pub recordOf : Motor → List ℕ

@@ -11,19 +11,19 @@ use borrow.Author.Needs.{needs}
 use Rattle.motor.proofs.sound_bytes.Statement.{statement}
 use Rattle.motor.proofs.sound_bytes.Tie as tie
 
-rest-sound-requires : tie.Need-rest-sound-requires
-rest-sound-requires c κs = search needs
+rest-zero-requires : tie.Need-rest-zero-requires
+rest-zero-requires c κs = search needs
 
 motor-sound-requires : tie.Need-motor-sound-requires
 motor-sound-requires c κs = search needs
 
 returns : tie.Need-returns
 unfolding soundRecord
-returns c = rw (c .motor-sound .ensures, eq-eqb _ _ (c .before .before .before .before .pre), ← c .before .before .rest-sound .ensures, c .before .if1 .taken) (sym (and-true _))
+returns c = rw (c .motor-sound .ensures, eq-eqb _ _ (c .before .before .before .before .pre), ← c .before .before .rest-zero .ensures, c .before .if1 .taken) (sym (and-true _))
 
 returns-2 : tie.Need-returns-2
 unfolding soundRecord
-returns-2 c = let b = c .before .before .before .args .b .now in rw (← c .before .rest-sound .ensures, c .if1 .left) (sym (and-false (eqb (length b) 64 && soundMotor (motorOf b))))
+returns-2 c = let b = c .before .before .before .args .b .now in rw (← c .before .rest-zero .ensures, c .if1 .left) (sym (and-false (eqb (length b) 64 && soundMotor (motorOf b))))
 
 pub sound-bytes-spec : {M : Type 1} → statement M
-sound-bytes-spec = tie.close (tie.spec rest-sound-requires motor-sound-requires returns returns-2)
+sound-bytes-spec = tie.close (tie.spec rest-zero-requires motor-sound-requires returns returns-2)

@@ -1,10 +1,10 @@
--- `motor::rest_sound` meets its contract. Assumes nothing.
+-- `motor::rest_zero` meets its contract. Assumes nothing.
 use Rattle.digits.proofs.WordLaws.{zero-part, word-zero}
 use Rattle.digits.specs.Bytes.{part}
 use borrow.Author.Tests.{ne-eqb}
 use borrow.Author.Needs.{needs}
-use Rattle.motor.proofs.rest_sound.Statement.{statement}
-use Rattle.motor.proofs.rest_sound.Tie as tie
+use Rattle.motor.proofs.rest_zero.Statement.{statement}
+use Rattle.motor.proofs.rest_zero.Tie as tie
 
 long-at-requires : tie.Need-long-at-requires
 long-at-requires c κs = search needs
@@ -24,7 +24,7 @@ returns-2 c = let b = c .before .before .before .before .before .args .b .now in
 returns-3 : tie.Need-returns-3
 returns-3 c = let b = c .before .before .before .args .b .now in rw (zero-part b 44 4 16, ← c .before .long-at .ensures, ne-eqb _ _ (c .if1 .left))
 
-pub rest-sound-spec : {M : Type 1} → statement M
-rest-sound-spec =
+pub rest-zero-spec : {M : Type 1} → statement M
+rest-zero-spec =
     tie.close
     (tie.spec long-at-requires wide-at-requires wide-at-requires-2 returns returns-2 returns-3)
