@@ -5,7 +5,7 @@ use mathlib.Core.Bool.{Bool, true, false, _&&_}
 use Prim.Native.Nat.{ℕ, zero, suc, _+_, _*_, _/_, _%_, _^_, _<_, _≤_}
 use native.Mathlib.Nat.{mod-add-div, div-lt-iff-lt-mul, pow-suc, mul-right-comm, suc-ne-zero, suc-inj}
 use native.Mathlib.Omega.{arith}
-use lib.ListN.{length, getD}
+use lib.ListN.{length}
 use lib.Dec.{eqb}
 use borrow.Author.Tests.{eqb-true, eqb-false, eq-eqb, ne-eqb}
 use Rattle.digits.specs.Bytes.{AllBytes, part, allZero}
@@ -48,6 +48,11 @@ bytes-word (suc w) (b ∷ s) e h =
     let low : (b + 256 * word s) % 256 ≡ b = omega arith in
     let high : (b + 256 * word s) / 256 ≡ word s = omega arith in
     rw (low, high, bytes-word w s (suc-inj e) (λ k. h (suc k)))
+
+-- A byte is the number of itself alone.
+pub byte-word : (n : ℕ) → word (n ∷ []) ≡ n
+unfolding word
+byte-word n = omega arith
 
 -- A word is below what its width can hold.
 pub word-below : (w : ℕ) (s : List ℕ) → length s ≡ w → AllBytes s → word s < 256 ^ w

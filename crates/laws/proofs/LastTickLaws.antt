@@ -2,7 +2,7 @@
 -- tick D·1000/v rounded up", over sequences, with any other calls in between. Assumes nothing.
 use mathlib.Core.Path.{_≡_, refl, sym, _∙_}
 use mathlib.Core.List.{List, [], _∷_}
-use mathlib.Core.Bool.{Bool, true, false, _&&_, not, cond, false≢true, and-true}
+use mathlib.Core.Bool.{Bool, true, false, not, cond, false≢true, and-true}
 use Prim.Native.Nat.{ℕ, _+_, _≤_, _<_}
 use native.Mathlib.Nat.{zero-add, add-zero}
 use native.Mathlib.Numerals.{add-one}

@@ -6,8 +6,8 @@ use mathlib.Core.Logic.{_⊎_, inl, inr, ⊎-elim}
 use Prim.Native.Nat.{ℕ, _+_, _≤_}
 use native.Mathlib.Omega.{arith}
 use lib.Dec.{eqb}
-use borrow.Author.Tests.{leb-true, ne-eqb, eqb-true, not-false}
-use Rattle.digits.specs.Places.{ahead, countOf, cw}
+use borrow.Author.Tests.{leb-true, ne-eqb}
+use Rattle.digits.specs.Places.{ahead, cw}
 use Rattle.record.specs.declared.Motor.{Motor}
 use Rattle.record.specs.Record.{freshMotor}
 use Rattle.motor.specs.Switches.{blocked, edge, room}

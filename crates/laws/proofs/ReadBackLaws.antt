@@ -1,15 +1,15 @@
 -- Demand 2, the settings: over any sequence of calls, what was accepted is what the read command answers. Assumes nothing.
-use mathlib.Core.Path.{_≡_, refl, sym}
+use mathlib.Core.Path.{_≡_, refl}
 use mathlib.Core.List.{List, [], _∷_}
-use mathlib.Core.Bool.{Bool, true, false, not, cond, false≢true}
-use Prim.Native.Nat.{ℕ, zero, suc, _*_, _≤_}
+use mathlib.Core.Bool.{Bool, true, false, not, cond}
+use Prim.Native.Nat.{ℕ, _*_, _≤_}
 use native.Mathlib.Nat.{zero-add}
 use native.Mathlib.Omega.{arith}
 use lib.ListN.{length, getD}
 use lib.Dec.{eqb}
 use borrow.Author.Tests.{eq-eqb, le-leb, not-true}
 use Rattle.digits.specs.Bytes.{put}
-use Rattle.digits.specs.Words.{withBit, withoutBit}
+use Rattle.digits.specs.Words.{withBit}
 use Rattle.text.specs.Text.{bytes}
 use Rattle.record.specs.declared.Motor.{Motor}
 use Rattle.motor.proofs.SoundLaws.{and-l, and-r}
@@ -160,28 +160,22 @@ told-on u later x s o h w = run-keeps (λ t. Tells (motorAt t x) s) (changes urq
 
 -- the fields of the head, numbered as their orders are: 0 the mode, 1 all-reply, 2 the error flags
 abbrev field : ℕ → Head → ℕ
-field i h = cond (eqb i 0) (h .mode) (cond (eqb i 1) (h .reply) (h .errors))
+field i h = cond (eqb 0 i) (h .mode) (cond (eqb 1 i) (h .reply) (cond (eqb 2 i) (h .errors) 0))
 
--- Error flags that are written leave the fields before them.
-errors-field : (h : Head) (n i : ℕ) → i ≤ 1 → field i (withErrors h n) ≡ field i h
-errors-field h n zero l = refl
-errors-field h n (suc zero) l = refl
-errors-field h n (suc (suc i)) l = absurd (omega arith)
+-- Error flags that are written leave the other fields.
+errors-field : (h : Head) (n i : ℕ) → eqb 2 i ≡ false → field i (withErrors h n) ≡ field i h
+errors-field h n i e = rw e
 
 -- An order of the head leaves every field but its own.
-other-field : (h : Head) (o : HeadOrder) (i : ℕ) → i ≤ 1 → eqb (headTopic o) i ≡ false → field i (headChanged h o) ≡ field i h
+other-field : (h : Head) (o : HeadOrder) (i : ℕ) → eqb (headTopic o) i ≡ false → field i (headChanged h o) ≡ field i h
 unfolding headChanged headTopic
-other-field h (Mode n) zero l e = absurd (false≢true (sym e))
-other-field h (Mode n) (suc zero) l e = refl
-other-field h (Mode n) (suc (suc i)) l e = absurd (omega arith)
-other-field h (AllReply n) zero l e = refl
-other-field h (AllReply n) (suc zero) l e = absurd (false≢true (sym e))
-other-field h (AllReply n) (suc (suc i)) l e = absurd (omega arith)
-other-field h ClearErrors i l e = errors-field h 0 i l
-other-field h (ClearError n) i l e = errors-field h (withoutBit n (h .errors)) i l
+other-field h (Mode n) i e = rw e
+other-field h (AllReply n) i e = rw e
+other-field h ClearErrors i e = rw e
+other-field h (ClearError n) i e = rw e
 
--- A field of the head is left by every call that takes no order to write it.
-module _ (t : List ℕ) (s : soundTable t ≡ true) (i : ℕ) (l : i ≤ 1) where
+-- A field of the head is left by every call that takes no order to write it; the error flags aside, which refusals set.
+module _ (t : List ℕ) (s : soundTable t ≡ true) (i : ℕ) (l : eqb 2 i ≡ false) where
   whole : length t ≡ tableSize
   whole = sound-length t s
 
@@ -202,7 +196,7 @@ module _ (t : List ℕ) (s : soundTable t ≡ true) (i : ℕ) (l : i ≤ 1) wher
   order-field (Set x r) made e = unwritten (Set x r) made refl
   order-field (Ask x r) made e = unwritten (Ask x r) made refl
   order-field (AskHead r) made e = unwritten (AskHead r) made refl
-  order-field (ForHead o) made e = unfold changed in written (headChanged (headOf t) o) (other-field (headOf t) o i l e)
+  order-field (ForHead o) made e = unfold changed in written (headChanged (headOf t) o) (other-field (headOf t) o i e)
 
   call-field : (k : Call) → changesHead i t k ≡ false → field i (headOf (after urqolina t k .table)) ≡ field i (headOf t)
   call-field k = go (outcome t k s)
@@ -215,7 +209,7 @@ module _ (t : List ℕ) (s : soundTable t ≡ true) (i : ℕ) (l : i ≤ 1) wher
       go (motors f) e = rw (same-head t (withMotors t f) (λ j n h. motors-head t f j n s h))
 
 -- So it stays over every sequence that takes no such order.
-field-on : (u : List ℕ) (later : List Call) (i n : ℕ) → i ≤ 1 → soundTable u ≡ true → never urqolina (changesHead i) u later ≡ true
+field-on : (u : List ℕ) (later : List Call) (i n : ℕ) → eqb 2 i ≡ false → soundTable u ≡ true → never urqolina (changesHead i) u later ≡ true
     → field i (headOf u) ≡ n → field i (headOf (run urqolina u later)) ≡ n
 field-on u later i n h o e w =
     run-keeps (λ t. field i (headOf t) ≡ n) (changesHead i) (λ t k s c p. rw (call-field t s i h k c) p) u later o e w
@@ -229,13 +223,13 @@ reads-back b ks k later line reply enough =
       setting = λ x s e h q.
           read (Ask x (questionFor s)) (textFor s) q refl refl (told-on u later x s sound h (settles t k x s start e) (headOf v .mode) x);
       held = λ x s e h n. told-on u later x s sound h (settles t k x s start e) n x;
-      replyHeld = λ n e h. kept 1 (AllReply n) n (omega arith) e refl h;
-      modeHeld = λ n e h. kept 0 (Mode n) n (omega arith) e refl h;
+      replyHeld = λ n e h. kept 1 (AllReply n) n refl e refl h;
+      modeHeld = λ n e h. kept 0 (Mode n) n refl e refl h;
       allReply = λ n e h q.
-          read (AskHead AskAllReply) (cond (eqb n 1) (bytes "EN") (bytes "DS")) q refl refl (rw (kept 1 (AllReply n) n (omega arith) e refl h));
+          read (AskHead AskAllReply) (cond (eqb n 1) (bytes "EN") (bytes "DS")) q refl refl (rw (kept 1 (AllReply n) n refl e refl h));
       mode = λ n x e h q.
           let m = motorAt v x in
-          rw (read (Ask x AskStatus) (questionText (headOf v .mode) x m AskStatus) q refl refl refl, status-letter reply (headOf v .mode) x m, kept 0 (Mode n) n (omega arith) e refl h);
+          rw (read (Ask x AskStatus) (questionText (headOf v .mode) x m AskStatus) q refl refl refl, status-letter reply (headOf v .mode) x m, kept 0 (Mode n) n refl e refl h);
     }
   where
     t : List ℕ
@@ -257,7 +251,7 @@ reads-back b ks k later line reply enough =
         → after urqolina v (command line reply) ≡ record { result = 256 * length text; table = v; buffer = put reply 0 text }
     read o text q j c a = asked v line reply o text (run-sound u later sound) enough q j c a
 
-    kept : (i : ℕ) (o : HeadOrder) (n : ℕ) → i ≤ 1 → orderTaken t k ≡ Is (ForHead o) → field i (headChanged (headOf t) o) ≡ n
+    kept : (i : ℕ) (o : HeadOrder) (n : ℕ) → eqb 2 i ≡ false → orderTaken t k ≡ Is (ForHead o) → field i (headChanged (headOf t) o) ≡ n
         → never urqolina (changesHead i) u later ≡ true → field i (headOf v) ≡ n
     kept i o n h e c w =
         field-on u later i n h sound w (rw (takes t k (ForHead o) start e .table, head-back t (headChanged (headOf t) o) (sound-length t start)) c)

@@ -1,5 +1,4 @@
 -- Document 01, "Lines": what an order needs and the values that it may carry, as far as the line itself tells.
-use Prim.Native.Nat.{ℕ}
 use mathlib.Core.Bool.{Bool, true, false, _&&_}
 use lib.Dec.{leb}
 use Rattle.record.specs.declared.Setup.{Setup}

@@ -3,21 +3,20 @@
 use mathlib.Core.Path.{_≡_, refl, sym, ap, _∙_}
 use mathlib.Core.List.{List, [], _∷_, _++_}
 use mathlib.Core.Bool.{true}
-use Prim.Native.Nat.{ℕ, zero, suc, _+_, _≤_, _<_}
+use Prim.Native.Nat.{ℕ, _+_, _≤_, _<_}
 use native.Mathlib.Omega.{arith}
 use lib.ListN.{length, getD, replicate}
-use lib.Seq.{getD-take, getD-drop}
 use Rattle.digits.specs.Bytes.{AllBytes, part, joined}
 use Rattle.digits.specs.Words.{word, wordBytes}
-use Rattle.digits.specs.Places.{placeOf, wordOf}
+use Rattle.digits.specs.Places.{wordOf}
 use Rattle.digits.proofs.PartLaws.{append-bytes, cons-bytes, none-bytes, zeros-bytes, part-length, part-add, part-bytes, part-one, zero-bytes, part-whole, cut-joined}
-use Rattle.digits.proofs.WordLaws.{word-bytes, bytes-word, word-below, word-bytes-bytes}
+use Rattle.digits.proofs.WordLaws.{byte-word, word-bytes, bytes-word, word-below, word-bytes-bytes}
 use Rattle.digits.proofs.Signed.{place-bytes, word-place}
 use Rattle.record.specs.declared.Limits.{Limits}
 use Rattle.record.specs.declared.Speeds.{Speeds}
 use Rattle.record.specs.declared.Drive.{Drive}
 use Rattle.record.specs.declared.Motor.{Motor}
-use Rattle.record.specs.Record.{byteAt, shortAt, longAt, placeAt, limitsOf, speedsOf, wiringOf, setupOf, driveOf, motorOf, placeBytes, limitBytes, speedBytes, wiringBytes, setupBytes, settingBytes, goingByte, driveBytes, restBytes, restZero, recordOf, standing}
+use Rattle.record.specs.Record.{byteAt, longAt, placeAt, limitsOf, speedsOf, wiringOf, setupOf, driveOf, motorOf, placeBytes, limitBytes, speedBytes, wiringBytes, setupBytes, settingBytes, goingByte, driveBytes, restBytes, restZero, recordOf, standing}
 
 -- every number of a motor fits the bytes that it is written in, as the types of the code have it
 pub record FitsRecord (m : Motor) : Type 0 where
@@ -30,11 +29,6 @@ pub record FitsRecord (m : Motor) : Type 0 where
   pub fraction : m .drive .fraction < 65536
   pub speed : m .drive .speed < 4294967296
   pub target : m .drive .target < 4294967296
-
--- A byte is the number of itself alone.
-byte-word : (n : ℕ) → word (n ∷ []) ≡ n
-unfolding word
-byte-word n = omega arith
 
 -- Written and read back is the same motor.
 pub written-read : (m : Motor) → FitsRecord m → motorOf (recordOf m) ≡ m

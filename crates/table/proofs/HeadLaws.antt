@@ -1,15 +1,15 @@
 -- The head by value: what is there after it is written, what a write of it leaves, and what leaves it. Only `same-head`,
 -- `head-back` and the parts of its range know its fields. Assumes nothing.
 use mathlib.Core.Path.{_≡_, _∙_}
-use mathlib.Core.List.{List, [], _∷_}
-use mathlib.Core.Bool.{true, _&&_}
+use mathlib.Core.List.{List}
+use mathlib.Core.Bool.{true}
 use Prim.Native.Nat.{ℕ, _+_, _≤_}
 use native.Mathlib.Omega.{arith}
 use lib.ListN.{length}
 use lib.Dec.{leb}
 use borrow.Author.Tests.{leb-true}
 use Rattle.digits.specs.Bytes.{part, put, allZero}
-use Rattle.digits.specs.Words.{word}
+use Rattle.digits.proofs.WordLaws.{byte-word}
 use Rattle.digits.proofs.PutLaws.{put-length}
 use Rattle.motor.proofs.SoundLaws.{and-l, and-r}
 use Rattle.table.specs.declared.head.Head.{Head}
@@ -17,11 +17,6 @@ use Rattle.table.specs.Layout.{tableSize, headOf, headBytes, headUsed, h
 use Rattle.table.specs.Sound.{headInRange, soundHead, soundTable}
 use Rattle.table.proofs.PieceLaws.{part-after}
 use Rattle.table.proofs.TableLaws.{sound-length, sound-record-at, sound-head-of, sound-from}
-
--- A byte is the number of itself alone.
-byte-word : (n : ℕ) → word (n ∷ []) ≡ n
-unfolding word
-byte-word n = omega arith
 
 -- Where the 64 bytes are the same, the head is, and it is sound alike.
 module _ (t u : List ℕ) (same : (i n : ℕ) → i + n ≤ 64 → part u i n ≡ part t i n) where

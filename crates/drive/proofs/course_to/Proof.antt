@@ -1,6 +1,6 @@
+-- `drive::course_to` meets its contract. Assumes nothing.
 use native.Mathlib.Omega.{arith}
 use Prim.Native.Nat.{_≤_, _<_}
--- `drive::course_to` meets its contract. Assumes nothing.
 use borrow.Author.Tests.{eq-eqb, ne-eqb, le-leb, lt-leb}
 use Rattle.drive.specs.Drives.{courseTo}
 use borrow.Author.Needs.{needs}
