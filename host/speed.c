@@ -3,7 +3,7 @@
  * bytes of stack, with the ratio of the library to the model. Where the program runs in an emulator its nanoseconds are the
  * emulator's; the instructions are the processor's own either way.
  *
- * Ends with status 1 where a ratio of instructions is above 1.5 or a call of the library takes more than 512 bytes of stack.
+ * Ends with status 1 where a ratio of instructions is above 1.20 or a call of the library takes more than 512 bytes of stack.
  */
 #define _GNU_SOURCE
 #include <signal.h>
@@ -273,7 +273,7 @@ int main(void)
         printf("| %s | %llu | %llu | %.2f | %.0f | %.0f | %.2f | %u | %u |\n", calls[k].name,
                (unsigned long long)a->instructions, (unsigned long long)b->instructions, ratio, a->nanoseconds,
                b->nanoseconds, a->nanoseconds / b->nanoseconds, a->stack, b->stack);
-        good = good && ratio <= 1.5 && a->stack <= 512;
+        good = good && ratio <= 1.20 && a->stack <= 512;
     }
     uint32_t a = deepest(LIBRARY), b = deepest(MODEL);
     printf("| the deepest of %zu commands | | | | | | | %u | %u |\n", 2 * (sizeof lines / sizeof lines[0]), a, b);
