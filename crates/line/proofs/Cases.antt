@@ -47,15 +47,34 @@ every-form :
 unfolding computing-line line plus minus
 every-form = (refl, refl, refl, refl, refl, refl)
 
--- lines that have no form: empty, lower case, a byte too few or too many, a channel over F, a sign missing or doubled, no
--- digit, eleven digits, a second channel, another digit than the fixed 0 of SETLS, a CR at the end
+-- "let a bare d mean plus", wherever ±d stands: x is one byte, read first, and leading zeros count among the ten digits
+bare :
+    (map line ("ABS0100" ∷ "ABS01" ∷ "ABSA5" ∷ "ABS00" ∷ "ABS00000000013" ∷ "ABS09999999999" ∷ [])
+    ≡ map (λ o. Is o) (Go 0 (Abs (plus 100)) ∷ Go 0 (Abs (plus 1)) ∷ Go 10 (Abs (plus 5)) ∷ Go 0 (Abs (plus 0)) ∷ Go 0 (Abs (plus 13)) ∷ Go 0 (Abs (plus 9999999999)) ∷ []))
+    × (map line ("REL05" ∷ "PS02147483648" ∷ "FL0250" ∷ "BL7030" ∷ [])
+    ≡ map (λ o. Is o) (Go 0 (Rel (plus 5)) ∷ Set 0 (Preset (plus 2147483648)) ∷ Set 0 (SetCwLimit (plus 250)) ∷ Set 7 (SetCcwLimit (plus 30)) ∷ []))
+unfolding computing-line line plus
+bare = (refl, refl)
+
+-- where ±d stands, no number, two signs, a sign after the digits, a blank for the sign, eleven digits with a sign and bare; a
+-- sign where d stands, and a number where none does
+no-number :
+    map line
+    ("ABS0" ∷ "ABS0+" ∷ "ABS0-" ∷ "REL0" ∷ "PS0" ∷ "FL0+" ∷ "BL0-" ∷ "ABS0++5" ∷ "ABS0+-5" ∷ "REL0--5" ∷ "ABS05+" ∷ "ABS0 5" ∷ "ABSG5"
+    ∷ "ABS000000000013" ∷ "PS012345678901" ∷ "PS0+12345678901" ∷ "SPC0+400" ∷ "SPC0-400" ∷ "SPDH0+400" ∷ "JOGP05" ∷ "SCANP0+5" ∷ [])
+    ≡ replicate 21 Nothing
+unfolding computing-line line
+no-number = refl
+
+-- lines that have no form: empty, lower case, a byte too few or too many, a channel over F, a second channel, no digit, eleven
+-- digits, another digit than the fixed 0 of SETLS, a CR at the end
 no-form :
     map line
-    ("" ∷ "rem" ∷ "RE" ∷ "REM " ∷ " REM" ∷ "REM\r" ∷ "ABSG+5" ∷ "ABSa+5" ∷ "ABS0" ∷ "ABS05" ∷ "ABS0+" ∷ "ABS0+-5" ∷ "ABS0+5 "
-    ∷ "ABSBB+5" ∷ "PS0+12345678901" ∷ "SPC012345678901" ∷ "SPC0" ∷ "SPDM0800X" ∷ "SPDM" ∷ "SPDX0" ∷ "SETLS011111000" ∷ "SETLS01111000"
+    ("" ∷ "rem" ∷ "RE" ∷ "REM " ∷ " REM" ∷ "REM\r" ∷ "ABSG+5" ∷ "ABSa+5" ∷ "ABS0+5 "
+    ∷ "ABSBB+5" ∷ "SPC012345678901" ∷ "SPC0" ∷ "SPDM0800X" ∷ "SPDM" ∷ "SPDX0" ∷ "SETLS011111000" ∷ "SETLS01111000"
     ∷ "SETLS0111100000" ∷ "SETMT0110" ∷ "SETMT011000" ∷ "STS0" ∷ "STS?0" ∷ "PS?" ∷ "PS?0?" ∷ "ALL_REP  EN" ∷ "ALL_REP" ∷ "ERRC00"
     ∷ "ERRCA" ∷ "ERRF" ∷ "SSTP" ∷ "ASSTP0" ∷ "C0RLN01+5/+0" ∷ [])
-    ≡ replicate 37 Nothing
+    ≡ replicate 32 Nothing
 unfolding computing-line line
 no-form = refl
 

@@ -9,6 +9,7 @@ use lib.Dec.{eqb}
 use borrow.Author.Tests.{eqb-true}
 use Rattle.text.specs.Text.{same, bytes}
 use Rattle.line.specs.declared.Fields.{Fields}
+use Rattle.line.specs.declared.Written.{Written}
 use Rattle.line.specs.declared.Field.{Field}
 use Rattle.line.specs.declared.Field.the-variants.{Channel, Signed, Unsigned, Digit, Question, FourDigits, ZeroThree, Enable, Disable, End, Never}
 use Rattle.line.specs.declared.Got.{Got}
@@ -21,45 +22,49 @@ use Rattle.line.specs.Forms.{Row, forms, those, complete, fieldsAsRow, a
 use Rattle.line.specs.Computing.{computing-line}
 use Rattle.line.proofs.StencilLaws.{Range, fits, apart, apart-not, stencil, ends, fields-fit, letters, word-fits}
 
--- An example of each field, with what it is worth.
-abbrev pub sample : Field → List ℕ
-sample Channel = bytes "B"
-sample Signed = bytes "-5"
-sample Unsigned = bytes "0400"
-sample Digit = bytes "3"
-sample Question = bytes "?"
-sample FourDigits = bytes "1012"
-sample ZeroThree = bytes "0110"
-sample Enable = bytes "EN"
-sample Disable = bytes "DS"
-sample End = []
-sample Never = []
+-- An example of each field, with what it is worth. That of ±d is given, since it is written with a sign or bare.
+abbrev pub sample : List ℕ → Field → List ℕ
+sample d Channel = bytes "B"
+sample d Signed = d
+sample d Unsigned = bytes "0400"
+sample d Digit = bytes "3"
+sample d Question = bytes "?"
+sample d FourDigits = bytes "1012"
+sample d ZeroThree = bytes "0110"
+sample d Enable = bytes "EN"
+sample d Disable = bytes "DS"
+sample d End = []
+sample d Never = []
 
-abbrev pub worth : Field → Fields → Fields
-worth Channel f = withChannel f 11
-worth Signed f = withWritten f true 5
-worth Unsigned f = withWritten f false 400
-worth Digit f = withWritten f false 3
-worth Question f = f
-worth FourDigits f = withFirst f (record { a = 1; b = 0; c = 1; d = 2 })
-worth ZeroThree f = withSecond f (record { a = 0; b = 1; c = 1; d = 0 })
-worth Enable f = f
-worth Disable f = f
-worth End f = f
-worth Never f = f
+abbrev pub worth : Written → Field → Fields → Fields
+worth n Channel f = withChannel f 11
+worth n Signed f = withWritten f (n .minus) (n .digits)
+worth n Unsigned f = withWritten f false 400
+worth n Digit f = withWritten f false 3
+worth n Question f = f
+worth n FourDigits f = withFirst f (record { a = 1; b = 0; c = 1; d = 2 })
+worth n ZeroThree f = withSecond f (record { a = 0; b = 1; c = 1; d = 0 })
+worth n Enable f = f
+worth n Disable f = f
+worth n End f = f
+worth n Never f = f
 
-abbrev pub samples : List Field → List ℕ
-samples [] = []
-samples (k ∷ ks) = sample k ++ samples ks
+abbrev pub samples : List ℕ → List Field → List ℕ
+samples d [] = []
+samples d (k ∷ ks) = sample d k ++ samples d ks
 
-abbrev pub worths : List Field → Fields → Fields
-worths [] f = f
-worths (k ∷ ks) f = worths ks (worth k f)
+abbrev pub worths : Written → List Field → Fields → Fields
+worths n [] f = f
+worths n (k ∷ ks) f = worths n ks (worth n k f)
 
--- Each word is taken: the example line of every row is found as that row's order, and as no earlier row's.
-pub each-taken : map (λ r. orderOf (r .word ++ samples (r .fields))) forms ≡ map (λ r. Is (r .order (worths (r .fields) noFields))) forms
+-- The example line of every row, ±d written so, is found as that row's order, and as no earlier row's.
+abbrev pub Taken : List ℕ → Written → Type 0
+Taken d n = map (λ r. orderOf (r .word ++ samples d (r .fields))) forms ≡ map (λ r. Is (r .order (worths n (r .fields) noFields))) forms
+
+-- Each word is taken, and ±d after it with a sign and bare.
+pub each-taken : Taken (bytes "-5") (record { minus = true; digits = 5 }) × Taken (bytes "0100") (record { minus = false; digits = 100 })
 unfolding computing-line
-each-taken = refl
+each-taken = (refl, refl)
 
 -- a row's stencil: its word, then its fields
 abbrev pub outline : Row → List (List Range)

@@ -1,6 +1,7 @@
 pub mod ReadLaws
 pub mod StencilLaws
 pub mod FormLaws
+pub mod BareLaws
 pub mod Laws
 pub mod Cases
 pub mod OrderLaws

@@ -41,8 +41,9 @@ decimals = record { lo = code "0"; hi = code "9" } ∷ []
 abbrev pub hexes : List Range
 hexes = record { lo = code "0"; hi = code "9" } ∷ record { lo = code "A"; hi = code "F" } ∷ []
 
-abbrev pub signs : List Range
-signs = record { lo = code "+"; hi = code "+" } ∷ record { lo = code "-"; hi = code "-" } ∷ []
+-- what ±d begins with: a sign, or the first digit of a bare number
+abbrev pub signOrDigit : List Range
+signOrDigit = record { lo = code "0"; hi = code "9" } ∷ record { lo = code "+"; hi = code "+" } ∷ record { lo = code "-"; hi = code "-" } ∷ []
 
 -- a line fits a stencil; one that ends there, and one that may go on
 abbrev pub fits : List (List Range) → Bool → List ℕ → Bool
@@ -115,10 +116,10 @@ apart-not (c ∷ cs) a (d ∷ ds) b (x ∷ s) h f =
     go true e h w later = rw (disjoint-not c d x e w)
     go false e h w later = rw (later h) (and-false (within d x))
 
--- the bytes of a field, place by place; of a number the sign and the first digit
+-- the bytes of a field, place by place; of a number its first
 abbrev pub classes : Field → List (List Range)
 classes Channel = hexes ∷ []
-classes Signed = signs ∷ decimals ∷ []
+classes Signed = signOrDigit ∷ []
 classes Unsigned = decimals ∷ []
 classes Digit = decimals ∷ []
 classes Question = just (code "?") ∷ []
@@ -248,19 +249,19 @@ field-fits Channel f g s at to cs e r h =
     byte-fits hexes cs e s at refl (hex-within (byteAt s at) (t .0)) (rw (t .1) h)
 field-fits Signed f g s at to cs e r h = plus (eqb (byteAt s at) (code "+")) refl r
   where
-    number : (minus : Bool) → readNumber minus f s (at + 1) ≡ Here g to → fits (decimals ∷ []) false (drop (at + 1) s) ≡ true
-    number minus r = byte-fits decimals [] false s (at + 1) refl (digit-within (byteAt s (at + 1)) (number-first minus f g s (at + 1) to r)) refl
+    begins : within signOrDigit (byteAt s at) ≡ true → fits (signOrDigit ∷ []) false (drop at s) ≡ true
+    begins w = byte-fits signOrDigit [] false s at refl w refl
 
     plus : (t : Bool) → eqb (byteAt s at) (code "+") ≡ t
-        → cond t (readNumber false f s (at + 1)) (cond (eqb (byteAt s at) (code "-")) (readNumber true f s (at + 1)) Absent) ≡ Here g to
-        → fits (signs ∷ decimals ∷ []) false (drop at s) ≡ true
-    plus true e r = byte-fits signs (decimals ∷ []) false s at refl (rw (eqb-true (byteAt s at) (code "+") e)) (number false r)
+        → cond t (readNumber false f s (at + 1)) (cond (eqb (byteAt s at) (code "-")) (readNumber true f s (at + 1)) (readNumber false f s at)) ≡ Here g to
+        → fits (signOrDigit ∷ []) false (drop at s) ≡ true
+    plus true e r = begins (rw (eqb-true (byteAt s at) (code "+") e))
     plus false e r = minus (eqb (byteAt s at) (code "-")) refl r
       where
-        minus : (t : Bool) → eqb (byteAt s at) (code "-") ≡ t → cond t (readNumber true f s (at + 1)) Absent ≡ Here g to
-            → fits (signs ∷ decimals ∷ []) false (drop at s) ≡ true
-        minus true e r = byte-fits signs (decimals ∷ []) false s at refl (rw (eqb-true (byteAt s at) (code "-") e)) (number true r)
-        minus false e r = absurd (false≢true (ap here r))
+        minus : (t : Bool) → eqb (byteAt s at) (code "-") ≡ t → cond t (readNumber true f s (at + 1)) (readNumber false f s at) ≡ Here g to
+            → fits (signOrDigit ∷ []) false (drop at s) ≡ true
+        minus true e r = begins (rw (eqb-true (byteAt s at) (code "-") e))
+        minus false e r = begins (rw (number-first false f g s at to r))
 field-fits Unsigned f g s at to cs e r h = byte-fits decimals [] false s at refl (digit-within (byteAt s at) (number-first false f g s at to r)) refl
 field-fits Digit f g s at to cs e r h =
     let t = got-if (isDigit (byteAt s at)) _ g (at + 1) to r in

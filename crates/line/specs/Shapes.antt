@@ -108,12 +108,12 @@ numbered minus f at Nothing = Absent
 unfoldable pub readNumber : Bool → Fields → List ℕ → ℕ → Got
 readNumber minus f s at = numbered minus f at (numberAtFront (drop at s))
 
--- "±d: a sign, then 1 to 10 digits"
+-- "±d: a sign, then 1 to 10 digits"; 02 §1: "Wherever a form takes ±d, let a bare d mean plus"
 unfoldable pub readSigned : Fields → List ℕ → ℕ → Got
 readSigned f s at =
     cond (eqb (byteAt s at) (code "+"))
     (readNumber false f s (at + 1))
-    (cond (eqb (byteAt s at) (code "-")) (readNumber true f s (at + 1)) Absent)
+    (cond (eqb (byteAt s at) (code "-")) (readNumber true f s (at + 1)) (readNumber false f s at))
 
 -- "e one digit"
 unfoldable pub readDigit : Fields → List ℕ → ℕ → Got

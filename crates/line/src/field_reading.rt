@@ -118,7 +118,7 @@ fn number_from(s: &[u8], at: usize, minus: bool, f: Fields) -> Got
     }
 }
 
-// ±d: a sign, then 1 to 10 digits.
+// ±d: a sign, then 1 to 10 digits. A bare d means plus.
 fn signed_at(s: &[u8], at: usize, f: Fields) -> Got
     ensures { λ r. ⌜ r ≡ readSigned f (now (s .entry)) at ⌝ }
 {
@@ -128,7 +128,7 @@ fn signed_at(s: &[u8], at: usize, f: Fields) -> Got
     } else if sign == b'-' {
         number_from(s, at + 1, true, f)
     } else {
-        Got::Absent
+        number_from(s, at, false, f)
     }
 }
 

@@ -33,6 +33,9 @@ add-number-from-2 c =
 number-from-requires-2 : tie.Need-number-from-requires-2
 number-from-requires-2 c κs = search needs
 
+number-from-requires-3 : tie.Need-number-from-requires-3
+number-from-requires-3 c κs = search needs
+
 returns : tie.Need-returns
 unfolding readSigned
 returns c =
@@ -51,10 +54,10 @@ returns-2 c =
 returns-3 : tie.Need-returns-3
 unfolding readSigned
 returns-3 c =
-    let b = c .before .before .byte-or-zero in
-    let other : b .result ≡ code "+" → ⊥ = c .before .if1 .left in
-    let neither : b .result ≡ code "-" → ⊥ = c .if2 .left in
-    rw (← b .ensures, ne-eqb _ _ other, ne-eqb _ _ neither)
+    let b = c .before .before .before .byte-or-zero in
+    let other : b .result ≡ code "+" → ⊥ = c .before .before .if1 .left in
+    let neither : b .result ≡ code "-" → ⊥ = c .before .if2 .left in
+    rw (← b .ensures, ne-eqb _ _ other, ne-eqb _ _ neither, c .number-from3 .ensures)
 
 pub signed-at-spec : {M : Type 1} → statement M
 signed-at-spec =
@@ -65,6 +68,7 @@ signed-at-spec =
     number-from-requires
     add-number-from-2
     number-from-requires-2
+    number-from-requires-3
     returns
     returns-2
     returns-3)
