@@ -1,5 +1,5 @@
 /*
- * The draws of differ. The rules of document 01 stand here a third time, turned round: not what is sound or has a form, but
+ * The draws of differ. The rules of the documents stand here a third time, turned round: not what is sound or has a form, but
  * how to make what is. differ counts the numbers that the calls give, so a draw that misses its aim is seen.
  */
 #include "draw.h"
@@ -198,8 +198,8 @@ void draw_damage(struct draw *d, uint8_t *table)
 }
 
 /*
- * The forms. x stands for a channel, s for a signed number, u for one without a sign, y for a digit that is mostly 0 or 1,
- * z for one that is mostly 0, e for any digit.
+ * The forms. x stands for a channel, s for a number that may have a sign, and has none in half of those that are not below
+ * zero, u for one without a sign, y for a digit that is mostly 0 or 1, z for one that is mostly 0, e for any digit.
  */
 static const char *const forms[] = {
     "ABSxs",  "RELxs",  "SCANPx", "SCANNx", "JOGPx",  "JOGNx",  "SSTPx",      "ESTPx",      "ASSTP",          "AESTP",
@@ -233,7 +233,17 @@ static uint64_t draw_unsigned(struct draw *d)
     return ends[draw_below(d, sizeof ends / sizeof ends[0])];
 }
 
-/* Writes a number in digits, now and then with zeros before it, which may come to eleven. Gives the place after it. */
+/* How many zeros to write before a number of some digits: mostly none, else up to eleven digits in all, often ten or eleven. */
+static uint32_t draw_zeros(struct draw *d, uint32_t count)
+{
+    if (count >= 11 || !draw_once_in(d, 5))
+        return 0;
+    if (count < 10 && draw_once_in(d, 2))
+        return 10 - count + draw_below(d, 2);
+    return draw_below(d, 12 - count);
+}
+
+/* Writes a number in digits, now and then with zeros before it. Gives the place after it. */
 static uint8_t *put_number(struct draw *d, uint8_t *at, uint64_t n)
 {
     uint8_t digits[20];
@@ -242,8 +252,7 @@ static uint8_t *put_number(struct draw *d, uint8_t *at, uint64_t n)
         digits[count++] = (uint8_t)('0' + n % 10);
         n /= 10;
     } while (n != 0);
-    uint32_t zeros = draw_once_in(d, 6) ? draw_below(d, 12 - (count < 11 ? count : 11)) : 0;
-    while (zeros-- > 0)
+    for (uint32_t zeros = draw_zeros(d, count); zeros > 0; zeros--)
         *at++ = '0';
     while (count > 0)
         *at++ = digits[--count];
@@ -257,8 +266,11 @@ static uint8_t *put_field(struct draw *d, uint8_t *at, char field, uint32_t chan
     case 'x': *at = (uint8_t)"0123456789ABCDEF"[channel]; return at + 1;
     case 's':
         n = draw_signed(d, record);
-        *at = n < 0 || (n == 0 && draw_once_in(d, 2)) ? '-' : '+';
-        return put_number(d, at + 1, (uint64_t)(n < 0 ? -n : n));
+        if (n < 0 || (n == 0 && draw_once_in(d, 3)))
+            *at++ = '-';
+        else if (draw_once_in(d, 2))
+            *at++ = '+';
+        return put_number(d, at, (uint64_t)(n < 0 ? -n : n));
     case 'u': return put_number(d, at, draw_unsigned(d));
     case 'y': *at = (uint8_t)('0' + (draw_once_in(d, 40) ? draw_below(d, 10) : draw_below(d, 2))); return at + 1;
     case 'z': *at = (uint8_t)('0' + (draw_once_in(d, 20) ? draw_below(d, 10) : 0)); return at + 1;

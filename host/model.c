@@ -1,6 +1,7 @@
 /*
- * Document 01 once more, in plain C, written from the document alone. It is compared with the proved library call by
- * call, and the library's speed is measured beside it. Words in quotation marks are the document's.
+ * Document 01 as amended by §1 of document 02, in plain C, written from the documents alone. It is compared with the
+ * proved library call by call, and the library's speed is measured beside it. Words in quotation marks are document
+ * 01's, unless document 02 is named beside them.
  */
 #include "model.h"
 
@@ -458,12 +459,15 @@ static bool take_number(struct reader *reader, uint64_t *number)
     return reader->place > start;
 }
 
-/* "a sign, then 1 to 10 digits, its range the positions' range, REL's too" */
+/*
+ * ±d. Document 01: "a sign, then 1 to 10 digits, its range the positions' range, REL's too". Document 02 §1: "Wherever
+ * a form takes ±d, let a bare d mean plus." The sign alone may be missing, so a digit must follow all the same.
+ */
 static bool take_signed(struct reader *reader, struct order *order)
 {
     uint64_t number;
-    bool minus = take_byte(reader, '-');
-    if ((!minus && !take_byte(reader, '+')) || !take_number(reader, &number))
+    bool minus = !take_byte(reader, '+') && take_byte(reader, '-');
+    if (!take_number(reader, &number))
         return false;
     order->in_range = number <= (uint64_t)POSITION_MOST;
     if (order->in_range)

@@ -1,6 +1,7 @@
 /*
- * Document 01 once more, in plain C: the sixteen-axis pulse controller, written from the document alone. It is there to
- * be compared with the proved library call by call, and to measure the library's speed beside.
+ * Document 01 as amended by §1 of document 02, in plain C: the sixteen-axis pulse controller, written from the
+ * documents alone. It is there to be compared with the proved library call by call, and to measure the library's speed
+ * beside.
  *
  * The four calls take the library's buffers and answer its numbers. The host sees to it that every pointer is to as
  * many bytes as the length beside it says and is never null, that the buffers of one call do not overlap, and that one

@@ -1,6 +1,6 @@
 /*
- * The steps of the tour: for each number of each kind of call, and for each cause that document 01 has for it, a call that gives
- * it. differ ends a run in which a number of tour_numbers has no step, so a number that is added there needs one here.
+ * The steps of the tour: for each number of each kind of call, and for each cause that the documents have for it, a call that
+ * gives it. differ ends a run in which a number of tour_numbers has no step, so a number that is added there needs one here.
  */
 #include "tour.h"
 
@@ -20,8 +20,14 @@ const struct step tour[] = {
 
     {.kind = COMMAND, .number = 0, .line = "STS0?"},
     {.kind = COMMAND, .number = 0, .before = "REM", .line = "ABS0+100"},
-    /* no form, and over 80 bytes */
+    /* a bare number, in a start and in a setting, of ten digits too */
+    {.kind = COMMAND, .number = 0, .before = "REM", .line = "ABS0100"},
+    {.kind = COMMAND, .number = 0, .before = "REM", .line = "FL00000000250"},
+    /* no form: a byte that is none of it, no number, eleven digits, a sign where none stands; and over 80 bytes */
     {.kind = COMMAND, .number = 1, .line = "ABS0+10z"},
+    {.kind = COMMAND, .number = 1, .before = "REM", .line = "ABS0"},
+    {.kind = COMMAND, .number = 1, .before = "REM", .line = "FL000000000250"},
+    {.kind = COMMAND, .number = 1, .before = "REM;SCANP0", .line = "SPC0+400"},
     {.kind = COMMAND, .number = 1, .before = "REM",
      .line = "SPDM0000000000000000000000000000000000000000000000000000000000000000000000000000800"},
     /* a start, a setting and a selection of a driving channel */
@@ -30,6 +36,7 @@ const struct step tour[] = {
     {.kind = COMMAND, .number = 2, .before = "REM;SCANP0", .line = "SPDH0"},
     /* a value out of its range, and a target */
     {.kind = COMMAND, .number = 3, .before = "REM", .line = "SPDM05000001"},
+    {.kind = COMMAND, .number = 3, .before = "REM", .line = "PS02147483648"},
     {.kind = COMMAND, .number = 3, .before = "REM;PS0+2147483647", .line = "REL0+1"},
     /* local mode, A = 0, an active enabled switch ahead, no room, SPC on a stopped motor */
     {.kind = COMMAND, .number = 4, .line = "SCANP0"},

@@ -1,10 +1,10 @@
 -- The calls computed on cases beyond document 01's marked ones: the order of the refusals, the replies, settings read back,
--- switch readings, and inputs that no call may take. Each list is one statement, and its proof is the computation.
+-- bare numbers, switch readings, and inputs that no call may take. Each list is one statement, and its proof is the computation.
 use mathlib.Core.Path.{_≡_, refl}
 use mathlib.Core.List.{List, [], _∷_, map}
 use lib.ListN.{replicate}
 use Rattle.digits.specs.Bytes.{put}
-use Rattle.digits.specs.Places.{ccw}
+use Rattle.digits.specs.Places.{cw, ccw}
 use Rattle.text.specs.Text.{bytes}
 use Rattle.urqolina.specs.Calls.{freshCall, commandCall, readingCall, tickCall}
 use Rattle.urqolina.specs.Computing.{computing-urqolina}
@@ -65,6 +65,19 @@ settings =
 settings-checked : seen fresh settings ≡ map stated settings
 unfolding computing-urqolina settings fresh after seen stated
 settings-checked = refl
+
+-- "Wherever a form takes ±d, let a bare d mean plus": x is one byte, and ten digits are the most, leading zeros among them. A number
+-- that is missing, two signs, eleven digits and a sign where d stands are 1, and ten digits above the range 3.
+bare : List Step
+bare =
+    says "REM" 0 "" ∷ says "SPDM05000000" 0 "" ∷ says "ABS0100" 0 "" ∷ ticks 0 cw 100 ∷ says "REL05" 0 "" ∷ ticks 0 cw 5 ∷ says "PS?0" 0 "+0000105"
+    ∷ says "FL0250" 0 "" ∷ says "FL?0" 0 "+0000250" ∷ says "BL030" 0 "" ∷ says "BL?0" 0 "+0000030" ∷ says "ABS0" 1 "" ∷ says "ABS0+" 1 "" ∷ says "ABS0+-5" 1 ""
+    ∷ says "ABSBB5" 1 "" ∷ says "PS02147483648" 3 "" ∷ says "PS012345678901" 1 "" ∷ says "PS00000000007" 0 "" ∷ says "PS?0" 0 "+0000007" ∷ says "PS0-0" 0 ""
+    ∷ says "PS?0" 0 "+0000000" ∷ says "SCANP0" 0 "" ∷ says "SPC0+400" 1 "" ∷ says "SPC0400" 0 "" ∷ says "PS07" 2 "" ∷ says "LOC" 0 "" ∷ says "ABS07" 4 "" ∷ []
+
+bare-checked : seen fresh bare ≡ map stated bare
+unfolding computing-urqolina bare fresh after seen stated
+bare-checked = refl
 
 -- A reading is taken in both modes, replaces the contacts, and ends a drive by the switch of its direction alone. CCW counts
 -- are negative.

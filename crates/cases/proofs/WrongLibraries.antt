@@ -1,9 +1,10 @@
 -- Libraries that document 01 says must not satisfy the promises, and the demand that refuses each: "a library that refuses all
 -- lines, or answers OK to all ..; a tick that does nothing ..; one that runs the first drive and feigns the rest ..; invented pulse
--- counts or reply lengths"; three of the "Errors that look right"; and some that would keep to the sums and still be of no use. Each
--- is ours with one call replaced, and is refused on one short sequence, by computing it. Assumes nothing.
+-- counts or reply lengths"; three of the "Errors that look right"; some that would keep to the sums and still be of no use; and those that misread
+-- a request of document 02. Each is ours with one call replaced, and is refused on one short sequence, by computing it. Assumes nothing.
 use Prim.Native.Char.{code}
-use Prim.Native.Nat.{ℕ, _+_, _*_, _-_, _≤_, _<_}
+use Prim.Native.Nat.{ℕ, _+_, _*_, _-_, _%_, _≤_, _<_}
+use Prim.Native.String as S
 use native.Mathlib.Omega.{arith}
 use mathlib.Core.Path.{_≡_, refl, sym, ap, _∙_}
 use mathlib.Core.List.{List, [], _∷_, _++_}
@@ -22,8 +23,10 @@ use Rattle.drive.specs.Drives.{stopped, contacted}
 use Rattle.line.specs.declared.Start.the-variants.{Scan}
 use Rattle.line.specs.declared.Setting.the-variants.{Preset, SetCwLimit}
 use Rattle.line.specs.declared.HeadOrder.the-variants.{Mode}
-use Rattle.line.specs.declared.Order.the-variants.{Stop, ForHead}
-use Rattle.line.specs.Forms.{ssend}
+use Rattle.line.specs.declared.Order.{Order}
+use Rattle.line.specs.declared.Order.the-variants.{Stop, Set, ForHead}
+use Rattle.line.specs.declared.Parsed.the-variants.{Is, Nothing}
+use Rattle.line.specs.Forms.{ssend, orderOf}
 use Rattle.table.specs.Layout.{headOf, withHead, withReply, motorAt, withMotor, withMotors, freshTable}
 use Rattle.table.specs.Sound.{soundTable}
 use Rattle.commands.specs.Changing.{flagged}
@@ -31,9 +34,9 @@ use Rattle.obeying.specs.Taking.{CommandAfter}
 use Rattle.urqolina.specs.Calls.{TickAfter, freshCall, commandCall, readingCall, tickCall}
 use Rattle.laws.specs.Computing.{computing-laws}
 use Rattle.laws.specs.Sequences.{Library, Call, command, reading, tick, After, Beginning}
-use Rattle.laws.specs.Deeds.{Deed, starts, stops, speeds, sets, reads, ticks, rests, deed, isTick}
+use Rattle.laws.specs.Deeds.{Deed, starts, stops, speeds, sets, reads, ticks, rests, deed, isTick, orderTaken}
 use Rattle.laws.specs.Ledger.{countAt, Account, Travel}
-use Rattle.laws.specs.Numbers.{Numbers, Replies}
+use Rattle.laws.specs.Numbers.{Numbers, Replies, sizesRight}
 use Rattle.laws.specs.Neighbours.{Neighbours}
 use Rattle.laws.specs.ReadBack.{ReadsBack}
 use Rattle.laws.specs.Pulses.{motorNow, accountNow, travelNow, settingsNow, Ends, byStop, bySwitch, byTarget, byRoom, Demand3, Settled}
@@ -300,10 +303,13 @@ deaf-to-stops-refused d =
     let fact : true ≡ false = d lent 0 (omega arith) scanning .stopping (says "SSTP0") ssend refl in
     absurd (false≢true (sym fact))
 
+-- ours, but for one line, which it takes for another
+abbrev pub takesFor : S.String → S.String → Library
+takesFor a b = withCommand (λ t line reply. commandCall t (cond (same line (bytes a)) (bytes b) line) reply)
+
 -- SCANP0 that is taken for SCANN0: "P is CW". After a tick at 800 pps the next one gives a pulse against the drive.
 abbrev pub turnsScans : Library
-turnsScans =
-    withCommand (λ t line reply. commandCall t (cond (same line (bytes "SCANP0")) (bytes "SCANN0") line) reply)
+turnsScans = takesFor "SCANP0" "SCANN0"
 
 pub turns-scans-refused : AllDemand3 turnsScans → ⊥
 unfolding computing-laws
@@ -433,8 +439,7 @@ talks-refused r =
 
 -- Limits that change places: FL is kept as the CCW limit, and would read back from there.
 abbrev pub swapsLimits : Library
-swapsLimits =
-    withCommand (λ t line reply. commandCall t (cond (same line (bytes "FL0+5")) (bytes "BL0+5") line) reply)
+swapsLimits = takesFor "FL0+5" "BL0+5"
 
 pub swaps-limits-refused : AllReadsBack swapsLimits → ⊥
 unfolding computing-laws
@@ -443,3 +448,48 @@ swaps-limits-refused r =
     let told = read .held 0 (SetCwLimit (record { minus = false; digits = 5 })) refl refl 0 in
     let fact : _≡_ {A = ℕ} (code "1") (code "0") = ap (λ (s : List ℕ). getD s 1 0) told in
     absurd (omega (arith, fact))
+
+-- 02 §1, "Wherever a form takes ±d, let a bare d mean plus", misread. The tables are those in remote mode, channel 0 standing and
+-- scanning.
+abbrev remote : List ℕ
+remote = commandCall freshTable (bytes "REM") (replicate 32 0xaa) .table
+
+abbrev underway : List ℕ
+underway = commandCall remote (bytes "SCANP0") (replicate 32 0xaa) .table
+
+-- A library is refused if it takes a line that has no form,
+takes-formless : (l : Library) (t line : List ℕ) → sizesRight t (command line (replicate 32 0xaa)) ≡ true → soundTable t ≡ true → orderOf line ≡ Nothing
+    → l .command t line (replicate 32 0xaa) .result % 256 ≡ 0 → Numbers l → ⊥
+takes-formless l t line sizes sound none taken n = absurd (omega (arith, n .formless t line (replicate 32 0xaa) sizes sound none, taken))
+
+-- or gives 1 to a line that the rules accept.
+refuses-form : (l : Library) (t line : List ℕ) (o : Order) → soundTable t ≡ true → orderTaken t (command line (replicate 32 0xaa)) ≡ Is o
+    → l .command t line (replicate 32 0xaa) .result % 256 ≡ 1 → Numbers l → ⊥
+refuses-form l t line o sound accepted refused n = absurd (omega (arith, n .accepts t line (replicate 32 0xaa) o sound accepted, refused))
+
+-- Only starts take a bare number: FL0250 is answered as a line without a form is.
+pub bare-in-starts-alone-refused : Numbers (takesFor "FL0250" "") → ⊥
+unfolding computing-laws
+bare-in-starts-alone-refused =
+    refuses-form (takesFor "FL0250" "") remote (bytes "FL0250") (Set 0 (SetCwLimit (record { minus = false; digits = 250 }))) refl refl refl
+
+-- A number that is missing is taken as 0, with its sign and without.
+pub none-for-zero-refused : (Numbers (takesFor "ABS0" "ABS0+0") → ⊥) × (Numbers (takesFor "ABS0+" "ABS0+0") → ⊥)
+unfolding computing-laws
+none-for-zero-refused = (
+  takes-formless (takesFor "ABS0" "ABS0+0") remote (bytes "ABS0") refl refl refl refl,
+  takes-formless (takesFor "ABS0+" "ABS0+0") remote (bytes "ABS0+") refl refl refl refl,
+)
+
+-- A sign is taken where d stands.
+pub signed-speed-refused : Numbers (takesFor "SPC0+400" "SPC0400") → ⊥
+unfolding computing-laws
+signed-speed-refused = takes-formless (takesFor "SPC0+400" "SPC0400") underway (bytes "SPC0+400") refl refl refl refl
+
+-- The sign's place counts as a digit: eleven bare ones are taken, or ten after a sign are not.
+pub sign-counted-refused : (Numbers (takesFor "PS000000000007" "PS0+7") → ⊥) × (Numbers (takesFor "PS0+0000000007" "") → ⊥)
+unfolding computing-laws
+sign-counted-refused = (
+  takes-formless (takesFor "PS000000000007" "PS0+7") remote (bytes "PS000000000007") refl refl refl refl,
+  refuses-form (takesFor "PS0+0000000007" "") remote (bytes "PS0+0000000007") (Set 0 (Preset (record { minus = false; digits = 7 }))) refl refl refl,
+)

@@ -60,9 +60,9 @@ bare = (refl, refl)
 -- sign where d stands, and a number where none does
 no-number :
     map line
-    ("ABS0" ∷ "ABS0+" ∷ "ABS0-" ∷ "REL0" ∷ "PS0" ∷ "FL0+" ∷ "BL0-" ∷ "ABS0++5" ∷ "ABS0+-5" ∷ "REL0--5" ∷ "ABS05+" ∷ "ABS0 5" ∷ "ABSG5"
+    ("ABS0" ∷ "ABS0+" ∷ "ABS0-" ∷ "REL0" ∷ "PS0" ∷ "FL0+" ∷ "BL0-" ∷ "ABS0++5" ∷ "ABS0+-5" ∷ "REL0--5" ∷ "PS0-+5" ∷ "ABS05+" ∷ "ABS0 5" ∷ "ABSG5"
     ∷ "ABS000000000013" ∷ "PS012345678901" ∷ "PS0+12345678901" ∷ "SPC0+400" ∷ "SPC0-400" ∷ "SPDH0+400" ∷ "JOGP05" ∷ "SCANP0+5" ∷ [])
-    ≡ replicate 21 Nothing
+    ≡ replicate 22 Nothing
 unfolding computing-line line
 no-number = refl
 

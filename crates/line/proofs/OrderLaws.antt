@@ -84,7 +84,7 @@ field-made Channel f s at h = channel-made f s at h
 field-made Signed f s at h =
     let n : Number = numberAtFront (drop (at + 1) s) in
     either-made (eqb (byteAt s at) (code "+")) _ _ (number-made false f (at + 1) n h)
-    (either-made (eqb (byteAt s at) (code "-")) _ _ (number-made true f (at + 1) n h) (number-made false f at (numberAtFront (drop at s)) h))
+    (either-made (eqb (byteAt s at) (code "-")) _ _ (number-made true f (at + 1) n h) (number-made _ f at (numberAtFront (drop at s)) h))
 field-made Unsigned f s at h = number-made false f at (numberAtFront (drop at s)) h
 field-made Digit f s at h = got-made (isDigit (byteAt s at)) (withWritten f false (digitAt s at)) (at + 1) h
 field-made Question f s at h = got-made (eqb (byteAt s at) (code "?")) f (at + 1) h

@@ -261,7 +261,7 @@ field-fits Signed f g s at to cs e r h = plus (eqb (byteAt s at) (code "+")) ref
         minus : (t : Bool) → eqb (byteAt s at) (code "-") ≡ t → cond t (readNumber true f s (at + 1)) (readNumber false f s at) ≡ Here g to
             → fits (signOrDigit ∷ []) false (drop at s) ≡ true
         minus true e r = begins (rw (eqb-true (byteAt s at) (code "-") e))
-        minus false e r = begins (rw (number-first false f g s at to r))
+        minus false e r = begins (rw (number-first _ f g s at to r))
 field-fits Unsigned f g s at to cs e r h = byte-fits decimals [] false s at refl (digit-within (byteAt s at) (number-first false f g s at to r)) refl
 field-fits Digit f g s at to cs e r h =
     let t = got-if (isDigit (byteAt s at)) _ g (at + 1) to r in
