@@ -76,6 +76,7 @@ static const struct measured calls[] = {
     {"PS?0, 16 motors driving", COMMAND, "PS?0", 16, 0, 0},
     {"STS0?", COMMAND, "STS0?", 0, 0, 0},
     {"ABS0+100, accepted", COMMAND, "ABS0+100", 0, 0, 0},
+    {"ABS0100, accepted", COMMAND, "ABS0100", 0, 0, 0},
     {"ABS0+100, refused as busy", COMMAND, "ABS0+100", 1, 2, 0},
     {"ABS0+3000000000, refused", COMMAND, "ABS0+3000000000", 0, 3, 0},
     {"SETLS011110000", COMMAND, "SETLS011110000", 0, 0, 0},
@@ -235,7 +236,7 @@ static const char *const lines[] = {
     "SETMT01100",    "PS?0",            "FL?0",     "BL?0",     "SPD?0",    "SPDH?0",     "SPDM?0",     "SPDL?0",
     "SETLS?0",       "SETMT?0",         "STS0?",    "LOC",      "REM",      "ALL_REP EN", "ALL_REP DS", "ALL_REP?",
     "ERRF?",         "ERR?",            "ERRC",     "ERRC3",    "ERRC9",    "",           "ABSBB+5",    "SPDM0800000000000",
-    "ALL_REP EM",    "SETLS011111000",  "PS0+9999999999"};
+    "ALL_REP EM",    "SETLS011111000",  "PS0+9999999999", "ABS0100", "FL00000000250", "ABS0"};
 
 /* The deepest stack of a command over all those lines, with no motor driving and with sixteen, all-reply on. */
 static uint32_t deepest(int k)

@@ -29,9 +29,11 @@ extern "C" {
  * Which library this header is of, and which table. The first is one higher with every change that a host can notice,
  * the second where the bytes of the table have come to mean something else. A host that keeps a table over an update
  * keeps the second with it, and makes a fresh table where it is not the same.
+ *   version 1: document 01
+ *   version 2: where a line takes a signed number, one without a sign means plus: ABS0100 is ABS0+100
  *   layout 1: a head of 64 bytes and sixteen records of 64, as document 01 has them
  */
-#define URQOLINA_VERSION 1
+#define URQOLINA_VERSION 2
 #define URQOLINA_LAYOUT 1
 
 /* The sizes of the buffers, in bytes. */

@@ -1,7 +1,8 @@
 -- Libraries that document 01 says must not satisfy the promises, and the demand that refuses each: "a library that refuses all
 -- lines, or answers OK to all ..; a tick that does nothing ..; one that runs the first drive and feigns the rest ..; invented pulse
--- counts or reply lengths"; three of the "Errors that look right"; some that would keep to the sums and still be of no use; and those that misread
--- a request of document 02. Each is ours with one call replaced, and is refused on one short sequence, by computing it. Assumes nothing.
+-- counts or reply lengths"; three of the "Errors that look right"; some that would keep to the sums and still be of no use; and some
+-- that misread a request of document 02. Each is ours with one call replaced, and is refused on one short sequence, by computing it.
+-- Assumes nothing.
 use Prim.Native.Char.{code}
 use Prim.Native.Nat.{ℕ, _+_, _*_, _-_, _%_, _≤_, _<_}
 use Prim.Native.String as S
@@ -33,7 +34,7 @@ use Rattle.commands.specs.Changing.{flagged}
 use Rattle.obeying.specs.Taking.{CommandAfter}
 use Rattle.urqolina.specs.Calls.{TickAfter, freshCall, commandCall, readingCall, tickCall}
 use Rattle.laws.specs.Computing.{computing-laws}
-use Rattle.laws.specs.Sequences.{Library, Call, command, reading, tick, After, Beginning}
+use Rattle.laws.specs.Sequences.{Library, Call, urqolina, command, reading, tick, After, Beginning, ran}
 use Rattle.laws.specs.Deeds.{Deed, starts, stops, speeds, sets, reads, ticks, rests, deed, isTick, orderTaken}
 use Rattle.laws.specs.Ledger.{countAt, Account, Travel}
 use Rattle.laws.specs.Numbers.{Numbers, Replies, sizesRight}
@@ -449,13 +450,12 @@ swaps-limits-refused r =
     let fact : _≡_ {A = ℕ} (code "1") (code "0") = ap (λ (s : List ℕ). getD s 1 0) told in
     absurd (omega (arith, fact))
 
--- 02 §1, "Wherever a form takes ±d, let a bare d mean plus", misread. The tables are those in remote mode, channel 0 standing and
--- scanning.
-abbrev remote : List ℕ
-remote = commandCall freshTable (bytes "REM") (replicate 32 0xaa) .table
+-- 02 §1, "Wherever a form takes ±d, let a bare d mean plus", misread. On tables with channel 0 standing ready, and under way:
+abbrev standing : List ℕ
+standing = ran urqolina lent ready
 
 abbrev underway : List ℕ
-underway = commandCall remote (bytes "SCANP0") (replicate 32 0xaa) .table
+underway = ran urqolina lent scanning
 
 -- A library is refused if it takes a line that has no form,
 takes-formless : (l : Library) (t line : List ℕ) → sizesRight t (command line (replicate 32 0xaa)) ≡ true → soundTable t ≡ true → orderOf line ≡ Nothing
@@ -471,14 +471,14 @@ refuses-form l t line o sound accepted refused n = absurd (omega (arith, n .acce
 pub bare-in-starts-alone-refused : Numbers (takesFor "FL0250" "") → ⊥
 unfolding computing-laws
 bare-in-starts-alone-refused =
-    refuses-form (takesFor "FL0250" "") remote (bytes "FL0250") (Set 0 (SetCwLimit (record { minus = false; digits = 250 }))) refl refl refl
+    refuses-form (takesFor "FL0250" "") standing (bytes "FL0250") (Set 0 (SetCwLimit (record { minus = false; digits = 250 }))) refl refl refl
 
 -- A number that is missing is taken as 0, with its sign and without.
 pub none-for-zero-refused : (Numbers (takesFor "ABS0" "ABS0+0") → ⊥) × (Numbers (takesFor "ABS0+" "ABS0+0") → ⊥)
 unfolding computing-laws
 none-for-zero-refused = (
-  takes-formless (takesFor "ABS0" "ABS0+0") remote (bytes "ABS0") refl refl refl refl,
-  takes-formless (takesFor "ABS0+" "ABS0+0") remote (bytes "ABS0+") refl refl refl refl,
+  takes-formless (takesFor "ABS0" "ABS0+0") standing (bytes "ABS0") refl refl refl refl,
+  takes-formless (takesFor "ABS0+" "ABS0+0") standing (bytes "ABS0+") refl refl refl refl,
 )
 
 -- A sign is taken where d stands.
@@ -490,6 +490,6 @@ signed-speed-refused = takes-formless (takesFor "SPC0+400" "SPC0400") underway (
 pub sign-counted-refused : (Numbers (takesFor "PS000000000007" "PS0+7") → ⊥) × (Numbers (takesFor "PS0+0000000007" "") → ⊥)
 unfolding computing-laws
 sign-counted-refused = (
-  takes-formless (takesFor "PS000000000007" "PS0+7") remote (bytes "PS000000000007") refl refl refl refl,
-  refuses-form (takesFor "PS0+0000000007" "") remote (bytes "PS0+0000000007") (Set 0 (Preset (record { minus = false; digits = 7 }))) refl refl refl,
+  takes-formless (takesFor "PS000000000007" "PS0+7") standing (bytes "PS000000000007") refl refl refl refl,
+  refuses-form (takesFor "PS0+0000000007" "") standing (bytes "PS0+0000000007") (Set 0 (Preset (record { minus = false; digits = 7 }))) refl refl refl,
 )
