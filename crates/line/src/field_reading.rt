@@ -123,10 +123,9 @@ fn signed_at(s: &[u8], at: usize, f: Fields) -> Got
     ensures { λ r. ⌜ r ≡ readSigned f (now (s .entry)) at ⌝ }
 {
     let sign = byte_or_zero(s, at);
-    if sign == b'+' {
-        number_from(s, at + 1, false, f)
-    } else if sign == b'-' {
-        number_from(s, at + 1, true, f)
+    let minus = sign == b'-';
+    if minus | (sign == b'+') {
+        number_from(s, at + 1, minus, f)
     } else {
         number_from(s, at, false, f)
     }
