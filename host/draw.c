@@ -198,8 +198,8 @@ void draw_damage(struct draw *d, uint8_t *table)
 }
 
 /*
- * The forms. x stands for a channel, s for a number that may have a sign, and has none in half of those that are not below
- * zero, u for one without a sign, y for a digit that is mostly 0 or 1, z for one that is mostly 0, e for any digit.
+ * The forms. x stands for a channel, s for a number that may have a sign, u for one that may not, y for a digit that is mostly
+ * 0 or 1, z for one that is mostly 0, e for any digit.
  */
 static const char *const forms[] = {
     "ABSxs",  "RELxs",  "SCANPx", "SCANNx", "JOGPx",  "JOGNx",  "SSTPx",      "ESTPx",      "ASSTP",          "AESTP",
@@ -259,6 +259,26 @@ static uint8_t *put_number(struct draw *d, uint8_t *at, uint64_t n)
     return at;
 }
 
+/* Now and then a sign where none may stand. Gives the place after it. */
+static uint8_t *put_stray_sign(struct draw *d, uint8_t *at)
+{
+    if (!draw_once_in(d, 40))
+        return at;
+    *at = draw_once_in(d, 2) ? '-' : '+';
+    return at + 1;
+}
+
+/* The sign of a number; a number that is not below zero has none half the time. Gives the place after it. */
+static uint8_t *put_sign(struct draw *d, uint8_t *at, int64_t n)
+{
+    at = put_stray_sign(d, at);
+    if (n < 0 || (n == 0 && draw_once_in(d, 3)))
+        *at++ = '-';
+    else if (draw_once_in(d, 2))
+        *at++ = '+';
+    return at;
+}
+
 static uint8_t *put_field(struct draw *d, uint8_t *at, char field, uint32_t channel, const uint8_t *record)
 {
     int64_t n;
@@ -266,12 +286,9 @@ static uint8_t *put_field(struct draw *d, uint8_t *at, char field, uint32_t chan
     case 'x': *at = (uint8_t)"0123456789ABCDEF"[channel]; return at + 1;
     case 's':
         n = draw_signed(d, record);
-        if (n < 0 || (n == 0 && draw_once_in(d, 3)))
-            *at++ = '-';
-        else if (draw_once_in(d, 2))
-            *at++ = '+';
+        at = put_sign(d, at, n);
         return put_number(d, at, (uint64_t)(n < 0 ? -n : n));
-    case 'u': return put_number(d, at, draw_unsigned(d));
+    case 'u': return put_number(d, put_stray_sign(d, at), draw_unsigned(d));
     case 'y': *at = (uint8_t)('0' + (draw_once_in(d, 40) ? draw_below(d, 10) : draw_below(d, 2))); return at + 1;
     case 'z': *at = (uint8_t)('0' + (draw_once_in(d, 20) ? draw_below(d, 10) : 0)); return at + 1;
     case 'e': *at = (uint8_t)('0' + draw_below(d, 10)); return at + 1;

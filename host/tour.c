@@ -23,9 +23,10 @@ const struct step tour[] = {
     /* a bare number, in a start and in a setting, of ten digits too */
     {.kind = COMMAND, .number = 0, .before = "REM", .line = "ABS0100"},
     {.kind = COMMAND, .number = 0, .before = "REM", .line = "FL00000000250"},
-    /* no form: a byte that is none of it, no number, eleven digits, a sign where none stands; and over 80 bytes */
+    /* no form: a byte that is none of it, no number, two signs, eleven digits, a sign where none may stand; and over 80 bytes */
     {.kind = COMMAND, .number = 1, .line = "ABS0+10z"},
     {.kind = COMMAND, .number = 1, .before = "REM", .line = "ABS0"},
+    {.kind = COMMAND, .number = 1, .before = "REM", .line = "ABS0+-5"},
     {.kind = COMMAND, .number = 1, .before = "REM", .line = "FL000000000250"},
     {.kind = COMMAND, .number = 1, .before = "REM;SCANP0", .line = "SPC0+400"},
     {.kind = COMMAND, .number = 1, .before = "REM",
