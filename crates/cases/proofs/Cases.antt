@@ -66,8 +66,8 @@ settings-checked : seen fresh settings ≡ map stated settings
 unfolding computing-urqolina settings fresh after seen stated
 settings-checked = refl
 
--- "Wherever a form takes ±d, let a bare d mean plus": x is one byte, and ten digits are the most, leading zeros among them. A number
--- that is missing, two signs, eleven digits and a sign where d stands are 1, and ten digits above the range 3.
+-- 02 §1: "Wherever a form takes ±d, let a bare d mean plus". x is one byte, and ten digits are the most, leading zeros among them. A
+-- number that is missing, two signs, eleven digits and a sign where d stands are 1, and ten digits above the range 3.
 bare : List Step
 bare =
     says "REM" 0 "" ∷ says "SPDM05000000" 0 "" ∷ says "ABS0100" 0 "" ∷ ticks 0 cw 100 ∷ says "REL05" 0 "" ∷ ticks 0 cw 5 ∷ says "PS?0" 0 "+0000105"

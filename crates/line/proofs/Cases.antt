@@ -47,7 +47,7 @@ every-form :
 unfolding computing-line line plus minus
 every-form = (refl, refl, refl, refl, refl, refl)
 
--- "let a bare d mean plus", wherever ±d stands: x is one byte, read first, and leading zeros count among the ten digits
+-- 02 §1: "let a bare d mean plus", wherever ±d stands. x is one byte, read first, and leading zeros count among the ten digits.
 bare :
     (map line ("ABS0100" ∷ "ABS01" ∷ "ABSA5" ∷ "ABS00" ∷ "ABS00000000013" ∷ "ABS09999999999" ∷ [])
     ≡ map (λ o. Is o) (Go 0 (Abs (plus 100)) ∷ Go 0 (Abs (plus 1)) ∷ Go 10 (Abs (plus 5)) ∷ Go 0 (Abs (plus 0)) ∷ Go 0 (Abs (plus 13)) ∷ Go 0 (Abs (plus 9999999999)) ∷ []))
