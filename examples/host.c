@@ -1,5 +1,5 @@
 /*
- * A firmware loop over Urqolina: it makes a table, sends lines, reads switches, ticks, and prints the pulses that a
+ * A firmware loop over Urqolina: it makes a table, reads the switches, sends lines, ticks, and prints the pulses that a
  * real host would send to its drivers. README.md says how to build and link it.
  */
 #include <stdio.h>
@@ -22,9 +22,24 @@ static void send(const char *line)
     printf("\n");
 }
 
-static void read_switches(uint32_t channel, uint32_t contacts)
+/* What the wires of a channel tell: bit 0 the CW switch, bit 1 the CCW switch, bit 2 HP, closed = 1. A real host asks its
+   inputs. Here the rack of channel 5 woke on its CW switch. */
+static uint32_t wires[URQOLINA_CHANNELS] = {[5] = 1};
+
+static uint32_t read_switches(uint32_t channel)
 {
-    printf("switches %X: %u -> %u\n", channel, contacts, urqolina_reading(table, sizeof table, channel, contacts));
+    return urqolina_reading(table, sizeof table, channel, wires[channel]);
+}
+
+/* At power-up: a fresh table knows no switch, and starts no motor whose switches were not read. */
+static int power_up(void)
+{
+    if (urqolina_fresh(table, sizeof table) != URQOLINA_OK)
+        return 0;
+    for (uint32_t channel = 0; channel < URQOLINA_CHANNELS; channel++)
+        if (read_switches(channel) != URQOLINA_OK)
+            return 0;
+    return 1;
 }
 
 /* One millisecond: a refused tick gives no pulse, and its buffer is not looked at. */
@@ -45,15 +60,19 @@ int main(void)
 {
     unsigned now = 0;
 
-    if (urqolina_fresh(table, sizeof table) != URQOLINA_OK)
+    if (!power_up())
         return 1;
     send("REM");
+    send("SCANP5");   /* onto its switch: refused */
+    send("SCANN5");   /* and away from it */
+    send("ESTP5");
     send("ABS0+3");   /* 800 pulses a second: 0.8 of a pulse a tick, and the fraction is carried */
     send("SCANNB");
     while (now < 4)
         tick(++now);
     send("STS0?");
-    read_switches(0xB, 2);   /* the CCW switch of channel B closes, and ends its drive */
+    wires[0xB] = 2;   /* the CCW switch of channel B closes, and ends its drive */
+    printf("switches B -> %u\n", read_switches(0xB));
     tick(++now);
     send("STSB?");
     send("ABS0+3 ");   /* a byte too many: no form */

@@ -368,8 +368,21 @@ static void lend_table(const uint8_t *bytes, size_t size)
     fill(&table, bytes);
 }
 
-/* Calls one after the other on one table, which goes on from call to call: from a fresh one, or from one in a rare state. Both
-   are sound, and stay so. */
+/* What firmware does at power-up, or does in part, or not at all: the switches of the channels are read, mostly all open. */
+static void read_channels(void)
+{
+    uint32_t parts = draw_below(&chance, 4);
+    for (uint32_t c = 0; c < 16 && made < pause_at; c++) {
+        if (draw_below(&chance, 3) >= parts)
+            continue;
+        call.channel = c;
+        call.contacts = draw_once_in(&chance, 4) ? draw_below(&chance, 8) : 0;
+        make_call(READING);
+    }
+}
+
+/* Calls one after the other on one table, which goes on from call to call: from a fresh one, whose switches are read before more
+   than one call, or from one in a rare state. Both are sound, and stay so. */
 static void session(bool fresh, uint32_t most)
 {
     static uint8_t bytes[URQOLINA_TABLE_SIZE];
@@ -377,6 +390,8 @@ static void session(bool fresh, uint32_t most)
     lend_table(bytes, sizeof bytes);
     if (fresh)
         make_call(FRESH);
+    if (fresh && most > 1)
+        read_channels();
     for (uint32_t k = 1 + draw_below(&chance, most); k > 0 && made < pause_at; k--) {
         draw_call();
         if ((call.results[LIBRARY] & 0xff) == URQOLINA_NOT_SOUND)
@@ -533,12 +548,23 @@ static void send_line(const char *text, size_t size, size_t reply_size)
     make_call(COMMAND);
 }
 
-/* Sends the lines that stand before a step, one after the other. */
+/* Makes a reading that is written as in a script, S x n. */
+static void read_written(const char *text)
+{
+    call.channel = (uint32_t)(text[2] <= '9' ? text[2] - '0' : text[2] - 'A' + 10);
+    call.contacts = (uint32_t)(text[4] - '0');
+    make_call(READING);
+}
+
+/* Makes the readings and sends the lines that stand before a step, one after the other. */
 static void send_before(const char *lines)
 {
     while (lines != NULL && *lines != '\0') {
         size_t size = strcspn(lines, ";");
-        send_line(lines, size, URQOLINA_REPLY_SIZE);
+        if (lines[1] == ' ')
+            read_written(lines);
+        else
+            send_line(lines, size, URQOLINA_REPLY_SIZE);
         if ((call.results[LIBRARY] & 0xff) != URQOLINA_OK)
             differs("a line before a step of the tour was refused", "");
         lines += size + (lines[size] == ';');

@@ -10,7 +10,7 @@
 
 enum { HEAD = 64, RECORD = 64 };
 enum { POSITION = 0, CW_LIMIT = 4, CCW_LIMIT = 8, HSPD = 12, SELECTED = 24, SETLS = 25, CONTACTS = 26, SETMT = 27, ENDED = 31 };
-enum { GOING = 32, KIND = 33, FRACTION = 34, SPEED = 36, TARGET = 40 };
+enum { GOING = 32, KIND = 33, FRACTION = 34, SPEED = 36, TARGET = 40, READ = 44 };
 enum { STOPPED, CW, CCW };
 
 static const int64_t END = 2147483647;
@@ -100,6 +100,15 @@ static uint32_t draw_speed(struct draw *d)
     return speeds[draw_below(d, sizeof speeds / sizeof speeds[0])];
 }
 
+/* The switches of a channel that was read or, once in three times, was not: its contacts are then unknown, and 0. */
+static void draw_contacts(struct draw *d, uint8_t *record)
+{
+    if (draw_once_in(d, 3))
+        return;
+    record[READ] = 1;
+    record[CONTACTS] = (uint8_t)draw_below(d, 8);
+}
+
 /* Settings in their ranges; limits often beside the position, and often crossed. */
 static void draw_settings(struct draw *d, uint8_t *record)
 {
@@ -111,7 +120,7 @@ static void draw_settings(struct draw *d, uint8_t *record)
         put(record + HSPD + 4 * k, draw_speed(d));
     record[SELECTED] = (uint8_t)draw_below(d, 3);
     record[SETLS] = (uint8_t)(draw_below(d, 256) & 0xf7u);
-    record[CONTACTS] = (uint8_t)draw_below(d, 8);
+    draw_contacts(d, record);
     record[SETMT] = (uint8_t)draw_below(d, 2);
     record[SETMT + 1] = (uint8_t)draw_below(d, 2);
     record[SETMT + 3] = (uint8_t)draw_below(d, 3);
@@ -136,11 +145,12 @@ static void make_room(struct draw *d, uint8_t *record, int64_t sign)
         put(limit, (uint32_t)within(position + sign * (1 + (int64_t)draw_below(d, 6000))));
 }
 
-/* A drive: a scan, or to a target that is often one ahead; the fraction often 999. */
+/* A drive, of a channel that was read: a scan, or to a target that is often one ahead; the fraction often 999. */
 static void draw_drive(struct draw *d, uint8_t *record)
 {
     bool cw = draw_once_in(d, 2);
     int64_t sign = cw ? 1 : -1;
+    record[READ] = 1;
     if ((unsigned)record[SETLS] >> (cw ? 4 : 5) & 1u)
         release(record, cw ? 0 : 1);
     make_room(d, record, sign);
@@ -189,7 +199,8 @@ void draw_damage(struct draw *d, uint8_t *table)
         return;
     case 1: byte = table + draw_below(d, HEAD); break;
     case 2: break;
-    default: byte = record + SELECTED + draw_below(d, TARGET + 4 - SELECTED); break;
+    case 3: byte = record + (draw_once_in(d, 2) ? CONTACTS : READ); break;
+    default: byte = record + SELECTED + draw_below(d, READ + 2 - SELECTED); break;
     }
     if (draw_once_in(d, 2))
         *byte = (uint8_t)(*byte ^ 1u << draw_below(d, 8));

@@ -1,6 +1,6 @@
 /*
- * Document 01 as amended by §1 of document 02, in plain C, written from the documents alone. It is compared with the
- * proved library call by call, and the library's speed is measured beside it. Words in quotation marks are document
+ * Document 01 as amended by §1 and §2 of document 02, in plain C, written from the documents alone. It is compared with
+ * the proved library call by call, and the library's speed is measured beside it. Words in quotation marks are document
  * 01's, unless document 02 is named beside them.
  */
 #include "model.h"
@@ -36,7 +36,8 @@ enum {
     FRACTION = 34,
     SPEED_IN_FORCE = 36,
     TARGET = 40,
-    RECORD_ZEROS = 44
+    CONTACTS_KNOWN = 44,
+    RECORD_ZEROS = 45
 };
 
 enum { LOCAL = 0, REMOTE = 1 };
@@ -111,7 +112,7 @@ static inline uint8_t *motor_of(uint8_t *table, uint32_t channel)
 
 /* ---- Switches, room and drives ---- */
 
-/* "closed and N.O., or open and N.C.": the contact differs from the polarity. */
+/* "closed and N.O., or open and N.C.": the contact differs from the polarity. For contacts that are known. */
 static inline uint32_t active_switches(const uint8_t *motor)
 {
     return (uint32_t)(motor[CONTACTS] ^ motor[SETLS]) & ALL_CONTACTS;
@@ -144,11 +145,11 @@ static inline int64_t target_distance(const uint8_t *motor, uint32_t direction)
     return ahead(direction, load_signed(motor + POSITION), load_signed(motor + TARGET));
 }
 
-/* "Ending zeroes bytes 32..43." */
+/* "Ending zeroes bytes 32..43." Byte 44 is left: contacts once read stay known. */
 static inline void end_drive(uint8_t *motor, uint8_t flags)
 {
     motor[END_FLAGS] = flags;
-    memset(motor + DIRECTION, 0, RECORD_ZEROS - DIRECTION);
+    memset(motor + DIRECTION, 0, CONTACTS_KNOWN - DIRECTION);
 }
 
 /* ---- Soundness ---- */
@@ -194,25 +195,37 @@ static bool target_sound(const uint8_t *motor, uint32_t direction)
     return motor[KIND] == TO_TARGET && position_sound(motor + TARGET) && target_distance(motor, direction) >= 1;
 }
 
-/* Bytes 32 to 63 of a driving record, whose settings are sound. */
+/* What is set in a record's zeros. They are looked at from 45 to 52, from 53 to 60 and from 56 on. */
+static inline uint64_t zeros_bits(const uint8_t *motor)
+{
+    return any_bits(motor + RECORD_ZEROS) | any_bits(motor + 53) | any_bits(motor + 56);
+}
+
+/* Byte 44, of a stopped and of a driving record. 02 §2: "0 unknown, with contacts 0; 1 read". */
+static inline bool known_sound(const uint8_t *motor)
+{
+    return motor[CONTACTS_KNOWN] == 1 || (motor[CONTACTS_KNOWN] | motor[CONTACTS]) == 0;
+}
+
+/* Bytes 32 to 63 of a driving record, whose settings are sound. 02 §2: "a driving record has 1" in byte 44. */
 static bool drive_sound(const uint8_t *motor)
 {
     uint32_t direction = motor[DIRECTION];
     if (direction != CW && direction != CCW)
         return false;
-    if ((load4(motor + RECORD_ZEROS) | any_bits(motor + 48) | any_bits(motor + 56)) != 0)
+    if (motor[CONTACTS_KNOWN] != 1 || zeros_bits(motor) != 0)
         return false;
     return load2(motor + FRACTION) <= 999 && speed_sound(load4(motor + SPEED_IN_FORCE)) &&
            motor[END_FLAGS] == NO_END && motor[SETMT_A] == 1 && room(motor, direction) >= 1 &&
            !switch_ahead(motor, direction) && target_sound(motor, direction);
 }
 
-/* A stopped record has zeros from 32 to its end; one with a bit set there must be a sound drive. */
+/* A stopped record has zeros from 32 to 43 and from 45 to its end; one with a bit set there must be a sound drive. */
 static bool motor_sound(const uint8_t *motor)
 {
-    if (!settings_sound(motor))
+    if (!settings_sound(motor) || !known_sound(motor))
         return false;
-    uint64_t bits = any_bits(motor + 32) | any_bits(motor + 40) | any_bits(motor + 48) | any_bits(motor + 56);
+    uint64_t bits = any_bits(motor + 32) | any_bits(motor + 36) | zeros_bits(motor);
     return bits == 0 || drive_sound(motor);
 }
 
@@ -580,10 +593,14 @@ static uint32_t speed_place(uint32_t speed)
     return LSPD - (LSPD - MSPD) * speed;
 }
 
-/* "A start takes the selected speed, fraction 0, and clears the end flags." A stopped motor's fraction is 0 already. */
+/*
+ * "A start takes the selected speed, fraction 0, and clears the end flags." A stopped motor's fraction is 0 already.
+ * 02 §2: "a start on an unread channel is 4, after the target check", whatever switches are enabled.
+ */
 static uint32_t start(uint8_t *motor, uint8_t direction, uint8_t kind, int32_t target)
 {
-    if (motor[SETMT_A] == 0 || switch_ahead(motor, direction) || room(motor, direction) < 1)
+    if (motor[SETMT_A] == 0 || motor[CONTACTS_KNOWN] == 0 || switch_ahead(motor, direction) ||
+        room(motor, direction) < 1)
         return NG;
     motor[END_FLAGS] = NO_END;
     motor[DIRECTION] = direction;
@@ -593,7 +610,7 @@ static uint32_t start(uint8_t *motor, uint8_t direction, uint8_t kind, int32_t t
     return OK;
 }
 
-/* "ABS to the present position, REL 0 [...] are OK and change nothing." */
+/* "ABS to the present position, REL 0 [...] are OK and change nothing", on an unread channel too. */
 static uint32_t start_to(uint8_t *motor, int64_t target)
 {
     int32_t position = load_signed(motor + POSITION);
@@ -777,6 +794,12 @@ static size_t write_mt(uint8_t *to, const uint8_t *motor)
     return 4;
 }
 
+/* 02 §2: "V shows its switch bits as 0 while unknown." */
+static inline uint32_t shown_switches(const uint8_t *motor)
+{
+    return motor[CONTACTS_KNOWN] == 0 ? 0 : active_switches(motor);
+}
+
 /* "STSx?: R or L; x; P, N or S; one hex digit V; two hex digits HH; position." */
 static size_t write_status(uint8_t *to, const uint8_t *table, const uint8_t *motor, uint32_t channel)
 {
@@ -785,7 +808,7 @@ static size_t write_status(uint8_t *to, const uint8_t *table, const uint8_t *mot
     to[0] = table[MODE] == REMOTE ? 'R' : 'L';
     to[1] = HEX[channel];
     to[2] = DIRECTION_LETTERS[direction];
-    to[3] = HEX[active_switches(motor) | hold_off];
+    to[3] = HEX[shown_switches(motor) | hold_off];
     write_hex2(to + 4, direction == STOPPED ? motor[END_FLAGS] : 0x03);
     return 6 + write_place(to + 6, load_signed(motor + POSITION));
 }
@@ -858,6 +881,7 @@ static int32_t tick_motor(uint8_t *motor)
 
 /* ---- The four calls ---- */
 
+/* 02 §2: "Contacts must be unknown until the channel's first accepted reading." Contacts and byte 44 are 0. */
 uint32_t model_fresh(uint8_t *table, size_t table_size)
 {
     if (table_size != TABLE_SIZE)
@@ -902,6 +926,7 @@ uint32_t model_command(uint8_t *table, size_t table_size, const uint8_t *line, s
     return number + 256 * (uint32_t)write_text(reply, &NUMBER_TEXTS[number]);
 }
 
+/* "A switch reading replaces the contacts." With it they are known, also where all are open: 02 §2, "1 read". */
 uint32_t model_reading(uint8_t *table, size_t table_size, uint32_t channel, uint32_t contacts)
 {
     if (table_size != TABLE_SIZE || channel >= MOTORS || contacts > ALL_CONTACTS)
@@ -910,6 +935,7 @@ uint32_t model_reading(uint8_t *table, size_t table_size, uint32_t channel, uint
         return NOT_SOUND;
     uint8_t *motor = motor_of(table, channel);
     motor[CONTACTS] = (uint8_t)contacts;
+    motor[CONTACTS_KNOWN] = 1;
     if (switch_ahead(motor, motor[DIRECTION]))
         end_drive(motor, LSEND);
     return OK;

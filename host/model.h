@@ -1,5 +1,5 @@
 /*
- * Document 01 as amended by §1 of document 02, in plain C: the sixteen-axis pulse controller, written from the
+ * Document 01 as amended by §1 and §2 of document 02, in plain C: the sixteen-axis pulse controller, written from the
  * documents alone. It is there to be compared with the proved library call by call, and to measure the library's speed
  * beside.
  *
@@ -20,7 +20,7 @@ uint32_t model_fresh(uint8_t *table, size_t table_size);
 uint32_t model_command(uint8_t *table, size_t table_size, const uint8_t *line, size_t line_size, uint8_t *reply,
                        size_t reply_size);
 
-/* Takes one reading of a channel's switches. 0, 5 or 6. */
+/* Takes one reading of a channel's switches; until the first, the contacts are unknown. 0, 5 or 6. */
 uint32_t model_reading(uint8_t *table, size_t table_size, uint32_t channel, uint32_t contacts);
 
 /* Takes one tick. 0, 5 or 6; at 0 the pulse buffer holds sixteen signed counts. */

@@ -101,11 +101,13 @@ static void send(const char *text)
     model_command(start, sizeof start, (const uint8_t *)text, strlen(text), reply, sizeof reply);
 }
 
-/* Makes the table that a call is measured on. Scans and drives to a target take turns; a tick has passed already. */
+/* Makes the table that a call is measured on, with all switches read. Scans and drives to a target take turns; a tick has passed already. */
 static void prepare(const struct measured *m)
 {
     char text[16];
     model_fresh(start, sizeof start);
+    for (uint32_t c = 0; c < URQOLINA_CHANNELS; c++)
+        model_reading(start, sizeof start, c, 0);
     send("REM");
     for (uint32_t c = 0; c < m->driving; c++) {
         snprintf(text, sizeof text, c % 2 == 0 ? "ABS%X+5000" : "SCANN%X", c);

@@ -16,11 +16,11 @@ enum { FRESH, COMMAND, READING, TICK, CALLS };
 /* The numbers that each kind of call can give, number n as bit n. Another one is taken for a fault of the call. */
 extern const uint32_t tour_numbers[CALLS];
 
-/* A call that gives a number: from a fresh table, the lines that are sent before it, and what it is lent. */
+/* A call that gives a number: from a fresh table, the readings and lines that come before it, and what it is lent. */
 struct step {
     int kind;
     uint32_t number;
-    const char *before; /* with ; between them; each is accepted */
+    const char *before; /* with ; between them; a reading is written as in a script, S x n; each is accepted */
     const char *line; /* of a command */
     uint32_t channel, contacts; /* of a reading */
     int table, reply, pulses; /* by how much the size of a buffer is off */

@@ -26,15 +26,32 @@ extern "C" {
 #endif
 
 /*
+ * At power-up. A fresh table knows nothing of the switches: the contacts of a channel are unknown until its first
+ * accepted reading, and until then no start moves its motor (4). So after urqolina_fresh, and after restoring a table
+ * that was kept, read the switches of all sixteen channels before the first start, those without switches too:
+ *
+ *   urqolina_fresh(table, sizeof table);
+ *   for (uint32_t channel = 0; channel < URQOLINA_CHANNELS; channel++)
+ *       urqolina_reading(table, sizeof table, channel, contacts_of(channel));
+ *
+ * where contacts_of is the host's own. A reading is taken in local mode too, and one of open contacts is one. Nothing but
+ * urqolina_fresh makes contacts unknown again. Afterwards, read a channel whenever a contact of it changes.
+ */
+
+/*
  * Which library this header is of, and which table. The first is one higher with every change that a host can notice,
  * the second where the bytes of the table have come to mean something else. A host that keeps a table over an update
  * keeps the second with it, and makes a fresh table where it is not the same.
  *   version 1: document 01
  *   version 2: where a line takes a signed number, one without a sign means plus: ABS0100 is ABS0+100
+ *   version 3: a start on a channel whose switches were not read since fresh is 4; its status shows no switch as active
  *   layout 1: a head of 64 bytes and sixteen records of 64, as document 01 has them
+ *   layout 2: byte 44 of a record is 0 while its contacts are unknown, and byte 26 then is 0 too, or 1 once they are
+ *             read. Of the tables of layout 1, one with a closed contact or a driving motor is answered 6, and the
+ *             others are taken as unread
  */
-#define URQOLINA_VERSION 2
-#define URQOLINA_LAYOUT 1
+#define URQOLINA_VERSION 3
+#define URQOLINA_LAYOUT 2
 
 /* The sizes of the buffers, in bytes. */
 #define URQOLINA_TABLE_SIZE 1088u  /* the table, exactly */
@@ -50,7 +67,8 @@ enum {
     URQOLINA_COMMAND_ERROR = 1, /* the line has no form */
     URQOLINA_BUSY = 2,          /* a start, setting or speed selection of a driving channel */
     URQOLINA_PARAMETER = 3,     /* the form is right, a value is outside its range */
-    URQOLINA_NG = 4,            /* local mode; A = 0; an active enabled switch ahead; no room; SPC on a stopped motor */
+    URQOLINA_NG = 4,            /* local mode; A = 0; contacts not read yet; an active enabled switch ahead; no room; SPC
+                                   on a stopped motor */
     URQOLINA_WRONG_SIZE = 5,    /* a buffer of the wrong size, a channel over 15, contacts over 7 */
     URQOLINA_NOT_SOUND = 6      /* the table is not sound */
 };
@@ -60,7 +78,8 @@ enum {
 #define URQOLINA_REPLY_LENGTH(result) ((result) >> 8)
 
 /*
- * Makes a fresh table, whatever the bytes were. Gives 0, or 5 and leaves the bytes as they were.
+ * Makes a fresh table, whatever the bytes were. Gives 0, or 5 and leaves the bytes as they were. The contacts of all
+ * channels are unknown: the switches are to be read next.
  */
 uint32_t urqolina_fresh(uint8_t *table, size_t table_size);
 
@@ -77,8 +96,8 @@ uint32_t urqolina_command(uint8_t *table, size_t table_size, const uint8_t *line
 
 /*
  * Takes one reading of a channel's switches.
- *   0     the contacts are in the channel's record, and its drive is ended if the switch of its direction is now active
- *         and enabled
+ *   0     the contacts are in the channel's record and known from now on, and its drive is ended if the switch of its
+ *         direction is now active and enabled
  *   5, 6  no byte is written
  */
 uint32_t urqolina_reading(uint8_t *table, size_t table_size, uint32_t channel, uint32_t contacts);

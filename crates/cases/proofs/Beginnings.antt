@@ -6,7 +6,7 @@ use mathlib.Core.List.{List, [], _∷_}
 use mathlib.Core.Bool.{true, false}
 use lib.ListN.{replicate}
 use Rattle.text.specs.Text.{bytes}
-use Rattle.laws.specs.Sequences.{Call, command, tick, Beginning}
+use Rattle.laws.specs.Sequences.{Call, command, reading, tick, Beginning}
 use Rattle.laws.specs.Ledger.{Account}
 
 -- The bytes that a fresh call is made on, and calls with what they are lent: full of AAh, so that a byte left alone shows.
@@ -19,9 +19,9 @@ says s = command (bytes s) (replicate 32 0xaa)
 abbrev pub ticked : Call
 ticked = tick (replicate 64 0xaa)
 
--- what comes before the first start of channel 0
+-- what comes before the first start of channel 0: its switches are read, all open, and the mode is remote
 abbrev pub ready : List Call
-ready = says "REM" ∷ []
+ready = reading 0 0 ∷ says "REM" ∷ []
 
 -- the account of a drive that lasts, and of one that is over: its direction, its speed, S and P
 abbrev pub running : ℕ → ℕ → ℕ → ℕ → Account

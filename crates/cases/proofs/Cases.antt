@@ -1,14 +1,15 @@
 -- The calls computed on cases beyond document 01's marked ones: the order of the refusals, the replies, settings read back,
--- bare numbers, switch readings, and inputs that no call may take. Each list is one statement, and its proof is the computation.
+-- bare numbers, switch readings, contacts that are unknown, and inputs that no call may take. Each list is one statement, and its proof is the computation.
 use mathlib.Core.Path.{_≡_, refl}
-use mathlib.Core.List.{List, [], _∷_, map}
+use mathlib.Core.List.{List, [], _∷_, _++_, map}
+use Prim.Native.Nat.{ℕ}
 use lib.ListN.{replicate}
 use Rattle.digits.specs.Bytes.{put}
 use Rattle.digits.specs.Places.{cw, ccw}
 use Rattle.text.specs.Text.{bytes}
 use Rattle.urqolina.specs.Calls.{freshCall, commandCall, readingCall, tickCall}
 use Rattle.urqolina.specs.Computing.{computing-urqolina}
-use Rattle.cases.proofs.Steps.{Step, says, reads, ticks, holds, lent, fresh, after, seen, stated}
+use Rattle.cases.proofs.Steps.{Step, says, reads, ticks, holds, lent, fresh, after, seen, left, stated}
 
 -- Local mode refuses starts, settings, SPC and all-reply before their values are looked at, and a line with no form before
 -- that; reads, stops, LOC, REM and the ERR family are taken. Each number leaves its flag, and ERR? tells the lowest.
@@ -28,7 +29,7 @@ local-mode-checked = refl
 -- the present position and REL 0 meet no check after busy; SPC knows no busy and needs a drive.
 refusals : List Step
 refusals =
-    says "REM" 0 "" ∷ says "PSE+2147483640" 0 "" ∷ says "SPCE100" 4 "" ∷ says "SCANNE" 0 "" ∷ says "RELE+2147483648" 3 ""
+    reads 14 0 0 ∷ says "REM" 0 "" ∷ says "PSE+2147483640" 0 "" ∷ says "SPCE100" 4 "" ∷ says "SCANNE" 0 "" ∷ says "RELE+2147483648" 3 ""
     ∷ says "RELE+100" 2 "" ∷ says "ABSE+2147483640" 2 "" ∷ says "RELE+0" 2 "" ∷ says "SPDME5000001" 3 "" ∷ says "SPDME500" 2 ""
     ∷ says "SPDHE" 2 "" ∷ says "FLE+1" 2 "" ∷ says "SETMTE1110" 3 "" ∷ says "SETMTE1100" 2 "" ∷ says "SETLSE21110000" 3 ""
     ∷ says "SPCE5000001" 3 "" ∷ says "SPCE5000000" 0 "" ∷ says "SSTPE" 0 "" ∷ says "SSTPE" 0 "" ∷ says "STSE?" 0 "RES040+2147483640"
@@ -43,7 +44,7 @@ refusals-checked = refl
 -- after the command.
 all-reply : List Step
 all-reply =
-    says "REM" 0 "" ∷ says "ALL_REP EN" 0 "OK" ∷ says "ALL_REP?" 0 "EN" ∷ says "SCANP3" 0 "OK" ∷ says "SCANP3" 2 "MCC06 BUSY ERROR"
+    reads 3 0 0 ∷ says "REM" 0 "" ∷ says "ALL_REP EN" 0 "OK" ∷ says "ALL_REP?" 0 "EN" ∷ says "SCANP3" 0 "OK" ∷ says "SCANP3" 2 "MCC06 BUSY ERROR"
     ∷ says "PS0+2147483648" 3 "PARAMETER ERROR" ∷ says "X" 1 "COMMAND ERROR" ∷ says "SPC0800" 4 "NG" ∷ says "ASSTP" 0 "OK" ∷ says "LOC" 0 "OK"
     ∷ says "ALL_REP DS" 4 "NG" ∷ says "REM" 0 "OK" ∷ says "ALL_REP DS" 0 "" ∷ says "X" 1 "" ∷ says "ALL_REP?" 0 "DS" ∷ []
 
@@ -54,7 +55,7 @@ all-reply-checked = refl
 -- An accepted setting reads back with its value, and stands in its bytes.
 settings : List Step
 settings =
-    says "REM" 0 "" ∷ says "PS?A" 0 "+0000000" ∷ says "FL?A" 0 "+1000000" ∷ says "BL?A" 0 "-1000000" ∷ says "SPD?A" 0 "MSPD"
+    reads 10 0 0 ∷ says "REM" 0 "" ∷ says "PS?A" 0 "+0000000" ∷ says "FL?A" 0 "+1000000" ∷ says "BL?A" 0 "-1000000" ∷ says "SPD?A" 0 "MSPD"
     ∷ says "SPDH?A" 0 "001000" ∷ says "SPDM?A" 0 "000800" ∷ says "SPDL?A" 0 "000050" ∷ says "SETLS?A" 0 "01110000" ∷ says "SETMT?A" 0 "1100"
     ∷ says "PSA-12" 0 "" ∷ says "FLA+2147483647" 0 "" ∷ says "BLA-2147483647" 0 "" ∷ says "SPDHA5000000" 0 "" ∷ says "SPDMA1" 0 ""
     ∷ says "SPDLA0000000123" 0 "" ∷ says "SPDLA" 0 "" ∷ says "SETLSA11011011" 1 "" ∷ says "SETLSA11019010" 1 "" ∷ says "SETLSA11010101" 0 ""
@@ -70,7 +71,7 @@ settings-checked = refl
 -- number that is missing, two signs, eleven digits and a sign where d stands are 1, and ten digits above the range 3.
 bare : List Step
 bare =
-    says "REM" 0 "" ∷ says "SPDM05000000" 0 "" ∷ says "ABS0100" 0 "" ∷ ticks 0 cw 100 ∷ says "REL05" 0 "" ∷ ticks 0 cw 5 ∷ says "PS?0" 0 "+0000105"
+    reads 0 0 0 ∷ says "REM" 0 "" ∷ says "SPDM05000000" 0 "" ∷ says "ABS0100" 0 "" ∷ ticks 0 cw 100 ∷ says "REL05" 0 "" ∷ ticks 0 cw 5 ∷ says "PS?0" 0 "+0000105"
     ∷ says "FL0250" 0 "" ∷ says "FL?0" 0 "+0000250" ∷ says "BL030" 0 "" ∷ says "BL?0" 0 "+0000030" ∷ says "ABS0" 1 "" ∷ says "ABS0+" 1 "" ∷ says "ABS0+-5" 1 ""
     ∷ says "ABSBB5" 1 "" ∷ says "PS02147483648" 3 "" ∷ says "PS012345678901" 1 "" ∷ says "PS00000000007" 0 "" ∷ says "PS?0" 0 "+0000007" ∷ says "PS0-0" 0 ""
     ∷ says "PS?0" 0 "+0000000" ∷ says "SCANP0" 0 "" ∷ says "SPC0+400" 1 "" ∷ says "SPC0400" 0 "" ∷ says "PS07" 2 "" ∷ says "LOC" 0 "" ∷ says "ABS07" 4 "" ∷ []
@@ -83,7 +84,7 @@ bare-checked = refl
 -- are negative.
 readings : List Step
 readings =
-    says "REM" 0 "" ∷ says "SPDM24000" 0 "" ∷ says "SCANN2" 0 "" ∷ ticks 2 ccw 4 ∷ says "LOC" 0 "" ∷ reads 2 5 0 ∷ says "STS2?" 0 "L2N503-0000004"
+    reads 2 0 0 ∷ says "REM" 0 "" ∷ says "SPDM24000" 0 "" ∷ says "SCANN2" 0 "" ∷ ticks 2 ccw 4 ∷ says "LOC" 0 "" ∷ reads 2 5 0 ∷ says "STS2?" 0 "L2N503-0000004"
     ∷ reads 2 3 0 ∷ says "STS2?" 0 "L2S320-0000004" ∷ ticks 2 ccw 0 ∷ reads 16 0 5 ∷ reads 2 8 5 ∷ reads 4294967295 4294967295 5
     ∷ reads 15 7 0 ∷ says "STSF?" 0 "LFS700+0000000" ∷ []
 
@@ -91,10 +92,46 @@ readings-checked : seen fresh readings ≡ map stated readings
 unfolding computing-urqolina readings fresh after seen stated
 readings-checked = refl
 
+-- 02 §2: "Contacts must be unknown until the channel's first accepted reading." On a channel that was not read no start moves the
+-- motor, whatever SETLS enables, and only what stays where it is is 0; a reading of open contacts makes it ready, and neither stops
+-- nor SETLS make it unread again. A rack that stands on its CW switch leaves it CCW alone. V shows no switch, N.C. or not, until one
+-- is read. The target's range comes before the reading, and contacts over 7 are none; a reading of another channel tells nothing.
+unread : List (List Step)
+unread =
+    (says "REM" 0 "" ∷ says "SCANP0" 4 "" ∷ says "STS0?" 0 "R0S000+0000000" ∷ says "REL0+0" 0 "" ∷ says "ABS0+0" 0 "" ∷ says "SETLS000000000" 0 ""
+    ∷ says "SCANP0" 4 "" ∷ reads 0 0 0 ∷ says "SCANP0" 0 "" ∷ says "ESTP0" 0 "" ∷ says "SCANN0" 0 "" ∷ says "ASSTP" 0 "" ∷ says "SETLS001110000" 0 ""
+    ∷ says "JOGP0" 0 "" ∷ [])
+    ∷ (reads 0 1 0 ∷ says "REM" 0 "" ∷ says "STS0?" 0 "R0S100+0000000" ∷ says "SCANP0" 4 "" ∷ says "SCANN0" 0 "" ∷ [])
+    ∷ (says "REM" 0 "" ∷ says "SETLS001110111" 0 "" ∷ says "STS0?" 0 "R0S000+0000000" ∷ says "SETMT01000" 0 "" ∷ says "STS0?" 0 "R0S800+0000000"
+    ∷ reads 0 0 0 ∷ says "STS0?" 0 "R0SF00+0000000" ∷ [])
+    ∷ (says "REM" 0 "" ∷ says "PS0+2147483647" 0 "" ∷ says "REL0+1" 3 "" ∷ says "JOGP0" 3 "" ∷ says "SCANP0" 4 "" ∷ says "ERRF?" 0 "0C" ∷ reads 0 8 5
+    ∷ reads 1 0 0 ∷ says "SCANN0" 4 "" ∷ reads 0 0 0 ∷ says "SCANN0" 0 "" ∷ [])
+    ∷ []
+
+unread-checked : map (seen fresh) unread ≡ map (λ c. map stated c) unread
+unfolding computing-urqolina unread fresh after seen stated
+unread-checked = refl
+
+-- "Record byte 44 says so (0 unknown, with contacts 0; 1 read); a driving record has 1": what a tick gives on a table with one byte of
+-- channel 0's record changed. Bytes 26, 44 and 45 of it stand at 90, 108 and 109.
+abbrev started : List Step
+started = reads 0 0 0 ∷ says "REM" 0 "" ∷ says "SCANP0" 0 "" ∷ []
+
+abbrev changed : List ℕ → ℕ → ℕ → ℕ
+changed t at n = tickCall (put t at (n ∷ [])) (lent 64) .result
+
+sound-contacts :
+    (changed fresh 108 0 ∷ changed fresh 108 1 ∷ changed fresh 108 2 ∷ changed fresh 90 1 ∷ changed fresh 109 1 ∷ [] ≡ 0 ∷ 0 ∷ 6 ∷ 6 ∷ 6 ∷ [])
+    × (changed (left fresh (reads 0 5 0 ∷ [])) 108 1 ∷ changed (left fresh (reads 0 5 0 ∷ [])) 108 0 ∷ [] ≡ 0 ∷ 6 ∷ [])
+    × (changed (left fresh started) 108 1 ∷ changed (left fresh started) 108 0 ∷ [] ≡ 0 ∷ 6 ∷ [])
+    × (changed (left fresh (started ++ (says "SSTP0" 0 "" ∷ []))) 108 0 ≡ 0)
+unfolding computing-urqolina fresh after left
+sound-contacts = (refl, refl, refl, refl)
+
 -- A stop of one channel leaves the drive of another; ASSTP and AESTP stop all that drive and leave the end flags of the rest.
 stops : List Step
 stops =
-    says "REM" 0 "" ∷ says "SCANP0" 0 "" ∷ says "SCANN1" 0 "" ∷ says "SCANPF" 0 "" ∷ says "SSTP0" 0 "" ∷ says "STS1?" 0 "R1N003+0000000"
+    reads 0 0 0 ∷ reads 1 0 0 ∷ reads 15 0 0 ∷ says "REM" 0 "" ∷ says "SCANP0" 0 "" ∷ says "SCANN1" 0 "" ∷ says "SCANPF" 0 "" ∷ says "SSTP0" 0 "" ∷ says "STS1?" 0 "R1N003+0000000"
     ∷ says "ESTPF" 0 "" ∷ says "AESTP" 0 "" ∷ says "STS0?" 0 "R0S040+0000000" ∷ says "STS1?" 0 "R1S080+0000000" ∷ says "STSF?" 0 "RFS080+0000000"
     ∷ says "JOGN1" 0 "" ∷ says "ASSTP" 0 "" ∷ says "STS1?" 0 "R1S040+0000000" ∷ says "STSF?" 0 "RFS080+0000000" ∷ says "STS2?" 0 "R2S000+0000000" ∷ []
 

@@ -21,6 +21,7 @@ use Rattle.laws.specs.Numbers.{asks}
 use Rattle.laws.specs.Neighbours.{ofHead}
 use Rattle.laws.specs.ReadBack.{textFor, topic, changedBy, changes, writesField, isSome, changesHead}
 use Rattle.laws.specs.Pulses.{accountNow, travelNow, settingsNow, disturbs, distance, lastTick}
+use Rattle.laws.specs.Contacts.{untold, toldNow}
 use Rattle.cases.proofs.Beginnings.{lent, says, ticked, ready, running, over}
 
 -- The account of channel 0 after a sequence. Fresh has MSPD selected, 800 pps: from a start on, the pulses are the thousands in
@@ -104,7 +105,7 @@ way-on :
 unfolding computing-laws
 way-on = (refl, refl)
 
--- Tables for deeds: fresh, in local mode; in remote mode; and with channel 0 driving.
+-- Tables for deeds: fresh, in local mode; in remote mode, with channel 0 read; and with channel 0 driving.
 unfoldable localTable : List ℕ
 localTable = fromFresh urqolina lent
 
@@ -138,13 +139,17 @@ other-deeds :
 unfolding computing-laws localTable
 other-deeds = refl
 
--- Remote mode: starts and settings are taken; not with a value outside its range (3), nor SPC on a stopped motor (4). A read is
--- nothing to a channel.
+-- Remote mode: starts and settings are taken; not with a value outside its range (3), nor SPC on a stopped motor (4), nor a start of
+-- channel 1, which was not read (4). A read is nothing to a channel.
 remote-deeds :
     map (deed 0 remoteTable) (says "SCANP0" ∷ says "ABS0-5" ∷ says "SCANP1" ∷ says "PS0+2147483648" ∷ says "SPC0400" ∷ says "PS?0" ∷ [])
     ≡ starts (Scan cw) ∷ starts (Abs (minus 5)) ∷ rests ∷ rests ∷ rests ∷ rests ∷ []
 unfolding computing-laws remoteTable
 remote-deeds = refl
+
+unread-deeds : map (deed 1 remoteTable) (says "SCANP1" ∷ says "PS1+5" ∷ says "SCANP0" ∷ []) ≡ rests ∷ sets (Preset (plus 5)) ∷ rests ∷ []
+unfolding computing-laws remoteTable
+unread-deeds = refl
 
 -- On a driving channel a start or a setting is refused (2), and SPC is taken.
 driving-deeds :
@@ -249,3 +254,13 @@ settings-made :
     × (settingsNow urqolina lent 0 (reading 0 5 ∷ reading 1 7 ∷ ticked ∷ []) .wiring .contacts ≡ 5)
 unfolding computing-laws
 settings-made = (refl, refl, refl)
+
+-- What is told of channel 0: nothing by a reading of another channel, by contacts over 7, by lines or ticks; then the contacts of its
+-- last accepted reading, open ones too, in both modes, and no start, stop or SETLS is anything to that.
+contacts-told :
+    (toldNow urqolina lent 0 (reading 1 7 ∷ reading 0 8 ∷ says "REM" ∷ says "SETLS000000000" ∷ ticked ∷ []) ≡ untold)
+    × (toldNow urqolina lent 0 (reading 0 0 ∷ []) ≡ record { contacts = 0; read = 1 })
+    × (toldNow urqolina lent 0 (reading 0 5 ∷ says "REM" ∷ reading 0 2 ∷ reading 1 7 ∷ []) ≡ record { contacts = 2; read = 1 })
+    × (toldNow urqolina lent 0 (ready ++ (says "SCANP0" ∷ says "SSTP0" ∷ says "SETLS000000000" ∷ [])) ≡ record { contacts = 0; read = 1 })
+unfolding computing-laws
+contacts-told = (refl, refl, refl, refl)

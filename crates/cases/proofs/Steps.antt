@@ -61,6 +61,11 @@ seen t (s ∷ ss) =
     let a = after t s in
     a .shown ∷ seen (a .table) ss
 
+-- the table that a list of steps leaves
+unfoldable pub left : List ℕ → List Step → List ℕ
+left t [] = t
+left t (s ∷ ss) = left (after t s .table) ss
+
 -- the reply that a list states, in a lent buffer: the bytes past it as they were
 abbrev pub replied : ℕ → List ℕ → Shown
 replied n text = record { result = n + 256 * length text; buffer = text ++ lent (32 - length text) }

@@ -20,16 +20,19 @@ use Rattle.record.specs.declared.Wiring.{Wiring}
 use Rattle.record.specs.declared.Motor.{Motor}
 use Rattle.record.specs.Record.{withWiring, withDrive, withFraction}
 use Rattle.motor.specs.Sound.{busy}
+use Rattle.drive.specs.Numbers.{numberOf}
 use Rattle.drive.specs.Drives.{stopped, contacted}
-use Rattle.line.specs.declared.Start.the-variants.{Scan}
+use Rattle.line.specs.declared.Start.the-variants.{Rel, Scan}
 use Rattle.line.specs.declared.Setting.the-variants.{Preset, SetCwLimit}
+use Rattle.line.specs.declared.Question.the-variants.{AskStatus}
 use Rattle.line.specs.declared.HeadOrder.the-variants.{Mode}
 use Rattle.line.specs.declared.Order.{Order}
-use Rattle.line.specs.declared.Order.the-variants.{Stop, Set, ForHead}
+use Rattle.line.specs.declared.Order.the-variants.{Go, Stop, Set, ForHead}
 use Rattle.line.specs.declared.Parsed.the-variants.{Is, Nothing}
 use Rattle.line.specs.Forms.{ssend, orderOf}
 use Rattle.table.specs.Layout.{headOf, withHead, withReply, motorAt, withMotor, withMotors, freshTable}
 use Rattle.table.specs.Sound.{soundTable}
+use Rattle.commands.specs.Judging.{judge}
 use Rattle.commands.specs.Changing.{flagged}
 use Rattle.obeying.specs.Taking.{CommandAfter}
 use Rattle.urqolina.specs.Calls.{TickAfter, freshCall, commandCall, readingCall, tickCall}
@@ -41,6 +44,7 @@ use Rattle.laws.specs.Numbers.{Numbers, Replies, sizesRight}
 use Rattle.laws.specs.Neighbours.{Neighbours}
 use Rattle.laws.specs.ReadBack.{ReadsBack}
 use Rattle.laws.specs.Pulses.{motorNow, accountNow, travelNow, settingsNow, Ends, byStop, bySwitch, byTarget, byRoom, Demand3, Settled}
+use Rattle.laws.specs.Contacts.{toldNow, Contacts}
 use Rattle.cases.proofs.Beginnings.{lent, says, ticked, ready, running}
 
 -- Demand 3 for every channel and every sequence, and read-back for every sequence and every read that is lent enough.
@@ -321,7 +325,7 @@ turns-scans-refused d =
 -- "Capping at the target but not at a digital limit inside the same tick; 5,000 pulses can fall in one": the counts are those that
 -- the motor would get with D = 0. With FL0+3 and D = 1 there is room for 3.
 abbrev pub withoutLimits : Motor → Motor
-withoutLimits m = withWiring m (record { setls = withoutBit 7 (m .wiring .setls); contacts = m .wiring .contacts })
+withoutLimits m = withWiring m (record { setls = withoutBit 7 (m .wiring .setls); contacts = m .wiring .contacts; read = m .wiring .read })
 
 abbrev pub overshoots : Library
 overshoots =
@@ -493,3 +497,102 @@ sign-counted-refused = (
   takes-formless (takesFor "PS000000000007" "PS0+7") standing (bytes "PS000000000007") refl refl refl refl,
   refuses-form (takesFor "PS0+0000000007" "") standing (bytes "PS0+0000000007") (Set 0 (Preset (record { minus = false; digits = 7 }))) refl refl refl,
 )
+
+-- 02 §2, "Contacts must be unknown until the channel's first accepted reading", misread. A library is refused if byte 44 of channel 0 is
+-- not what its readings told.
+abbrev pub AllContacts : Library → Type 0
+AllContacts l = (b : Beginning) (c : ℕ) → c ≤ 15 → (ks : List Call) → Contacts l b c ks
+
+told-other : (l : Library) (ks : List Call) (n m : ℕ) → motorNow l lent 0 ks .wiring .read ≡ n → toldNow l lent 0 ks .read ≡ m
+    → (n ≡ m → ⊥) → AllContacts l → ⊥
+told-other l ks n m e f other d = other (rw (e, f) at (d lent 0 (omega arith) ks .read))
+
+-- channel 0 with its contacts unknown again, and the command of a library that makes them so after some orders
+abbrev pub forgotten : List ℕ → List ℕ
+forgotten t = withMotor t 0 (withWiring (motorAt t 0) (record { setls = motorAt t 0 .wiring .setls; contacts = 0; read = 0 }))
+
+abbrev pub forgetsAfter : (Deed → Bool) → Library
+forgetsAfter test =
+    withCommand
+    (λ t line reply.
+    let a = commandCall t line reply in
+    record { result = a .result; table = cond (test (deed 0 t (command line reply))) (forgotten (a .table)) (a .table); reply = a .reply })
+
+-- A channel counts as read only when a contact is closed: after a reading of open contacts its start would still be refused.
+abbrev pub readsClosed : Library
+readsClosed =
+    record { fresh = freshCall; command = commandCall; reading = λ t c n. cond (eqb n 0) (record { result = 0; table = t }) (readingCall t c n); tick = tickCall }
+
+pub reads-closed-refused : AllContacts readsClosed → ⊥
+unfolding computing-laws
+reads-closed-refused = told-other readsClosed (reading 0 0 ∷ []) 0 1 refl refl (λ e. absurd (omega (arith, e)))
+
+-- The end of a drive zeroes byte 44 too, or SETLS forgets the reading.
+abbrev pub isSetting : Deed → Bool
+isSetting (starts s) = false
+isSetting (stops flags) = false
+isSetting (speeds v) = false
+isSetting (sets s) = true
+isSetting (reads n) = false
+isSetting ticks = false
+isSetting rests = false
+
+pub forgets-refused : (AllContacts (forgetsAfter isStop) → ⊥) × (AllContacts (forgetsAfter isSetting) → ⊥)
+unfolding computing-laws
+forgets-refused = (
+  told-other (forgetsAfter isStop) (scanning ++ (says "SSTP0" ∷ [])) 0 1 refl refl (λ e. absurd (omega (arith, e))),
+  told-other (forgetsAfter isSetting) (ready ++ (says "SETLS000000000" ∷ [])) 0 1 refl refl (λ e. absurd (omega (arith, e))),
+)
+
+-- Channel 0 in remote mode, not read: where it was made, and at the end of the range.
+abbrev unreadTable : List ℕ
+unreadTable = ran urqolina lent (says "REM" ∷ [])
+
+abbrev unreadAtEnd : List ℕ
+unreadAtEnd = ran urqolina lent (says "REM" ∷ says "PS0+2147483647" ∷ [])
+
+-- A library is refused if it gives a line another number than the rules.
+numbered-other : (l : Library) (t line : List ℕ) (o : Order) (n m : ℕ) → sizesRight t (command line (replicate 32 0xaa)) ≡ true → soundTable t ≡ true
+    → orderOf line ≡ Is o → numberOf (judge t o) ≡ n → l .command t line (replicate 32 0xaa) .result % 256 ≡ m → (m ≡ n → ⊥) → Numbers l → ⊥
+numbered-other l t line o n m sizes sound e f g other d =
+    other (sym g ∙ d .judged t line (replicate 32 0xaa) o sizes sound e ∙ f)
+
+-- The reading is asked for before the exit of REL 0, or before the target's range: what SCANP0 gives, 4, where 0 and 3 are due.
+pub unread-too-early-refused : (Numbers (takesFor "REL0+0" "SCANP0") → ⊥) × (Numbers (takesFor "REL0+1" "SCANP0") → ⊥)
+unfolding computing-laws
+unread-too-early-refused = (
+  numbered-other (takesFor "REL0+0" "SCANP0") unreadTable (bytes "REL0+0") (Go 0 (Rel (record { minus = false; digits = 0 }))) 0 4 refl refl refl refl refl
+      (λ e. absurd (omega (arith, e))),
+  numbered-other (takesFor "REL0+1" "SCANP0") unreadAtEnd (bytes "REL0+1") (Go 0 (Rel (record { minus = false; digits = 1 }))) 3 4 refl refl refl refl refl
+      (λ e. absurd (omega (arith, e))),
+)
+
+-- Only an enabled switch needs a reading: where SETLS enables none, the contacts count as read and open.
+abbrev pub asksEnabled : Library
+asksEnabled =
+    withCommand
+    (λ t line reply.
+    commandCall (cond (eqb (motorAt t 0 .wiring .setls) 0) (withMotor t 0 (contacted (motorAt t 0) 0)) t) line reply)
+
+pub asks-enabled-refused : Numbers asksEnabled → ⊥
+unfolding computing-laws
+asks-enabled-refused =
+    numbered-other asksEnabled (ran urqolina lent (says "REM" ∷ says "SETLS000000000" ∷ [])) (bytes "SCANP0") (Go 0 (Scan cw)) 4 0 refl refl refl refl refl
+    (λ e. absurd (omega (arith, e)))
+
+-- V is told from contacts that are not known: with SETLS001110111 all three switches would be active.
+abbrev pub showsUnread : Library
+showsUnread =
+    withCommand
+    (λ t line reply.
+    let a = commandCall (withMotor t 0 (contacted (motorAt t 0) 0)) line reply in
+    record { result = a .result; table = t; reply = a .reply })
+
+pub shows-unread-refused :
+    ((t line reply : List ℕ) (sound : soundTable t ≡ true) (enough : 32 ≤ length reply) → Replies showsUnread t line reply sound enough) → ⊥
+unfolding computing-laws
+shows-unread-refused r =
+    let t = ran urqolina lent (says "REM" ∷ says "SETLS001110111" ∷ []) in
+    let told = r t (bytes "STS0?") (replicate 32 0) refl (omega arith) .reads 0 AskStatus refl in
+    let fact : _≡_ {A = ℕ} (code "7") (code "0") = ap (λ (a : After). getD (a .buffer) 3 0) told in
+    absurd (omega (arith, fact))

@@ -5,24 +5,23 @@ use mathlib.Core.Bool.{true, false}
 use Prim.Native.Nat.{ℕ, _+_, _-_}
 use Rattle.digits.specs.Places.{origin, highest, cw, ccw}
 use Rattle.record.specs.declared.Motor.{Motor}
-use Rattle.record.specs.Record.{freshMotor, withLimits, withSpeeds, withWiring, withSetup}
+use Rattle.record.specs.Record.{freshMotor, withLimits, withWiring, withSetup}
 use Rattle.drive.specs.declared.Course.the-variants.{Stay, Beyond, To, Along}
-use Rattle.drive.specs.declared.Verdict.the-variants.{Done, NoForm, Busy, OutOfRange, LocalMode, Disabled, SwitchAhead, NoRoom, NotDriving, WrongSize, NotSound}
+use Rattle.drive.specs.declared.Verdict.the-variants.{Done, NoForm, Busy, OutOfRange, LocalMode, Disabled, Unread, SwitchAhead, NoRoom, NotDriving, WrongSize, NotSound}
 use Rattle.drive.specs.Numbers.{numberOf, isRefusal, flagBit}
-use Rattle.drive.specs.Drives.{courseTo, judgeStart, wellAimed, started, switchRead}
+use Rattle.drive.specs.Drives.{courseTo, judgeStart, wellAimed, started, stopped, contacted, switchRead}
 use Rattle.drive.specs.Computing.{computing-drive}
 
--- a fresh motor with MSPD v, with the contacts and SETLS byte given, and with the CW limit at position n and D = 1
-atSpeed : ℕ → Motor
-atSpeed v = withSpeeds freshMotor (record { high = 1000; middle = v; low = 50; selected = 1 })
+-- a fresh motor whose contacts were read, all open; one with the SETLS byte and the contacts given, read or not; and one with the CW
+-- limit at position n and D = 1
+known : Motor
+known = contacted freshMotor 0
 
-wired : ℕ → ℕ → Motor
-wired setls contacts = withWiring freshMotor (record { setls = setls; contacts = contacts })
+wired : ℕ → ℕ → ℕ → Motor
+wired setls contacts read = withWiring freshMotor (record { setls = setls; contacts = contacts; read = read })
 
 limited : ℕ → ℕ → Motor
-limited v n =
-    withLimits (withWiring (atSpeed v) (record { setls = 0b11110000; contacts = 0 }))
-    (record { cw = origin + n; ccw = origin - 1000000 })
+limited n read = withLimits (wired 0b11110000 0 read) (record { cw = origin + n; ccw = origin - 1000000 })
 
 -- "Numbers 1 to 4 set error flag bits 0 to 3 in turn": these are the refusals, and 0, 5 and 6 are none.
 flags :
@@ -33,32 +32,52 @@ flags = (refl, refl)
 
 -- A reading ends a drive only by the switch of its direction, with LSEND; HP and the other side end nothing.
 readings :
-    (map (λ n. switchRead (started freshMotor (Along cw)) n .drive .going) (0 ∷ 1 ∷ 2 ∷ 4 ∷ 6 ∷ 7 ∷ []) ≡ 1 ∷ 0 ∷ 1 ∷ 1 ∷ 1 ∷ 0 ∷ [])
-    × (map (λ n. switchRead (started freshMotor (Along ccw)) n .ended) (0 ∷ 1 ∷ 2 ∷ 5 ∷ 6 ∷ 7 ∷ []) ≡ 0 ∷ 0 ∷ 0x20 ∷ 0 ∷ 0x20 ∷ 0x20 ∷ [])
+    (map (λ n. switchRead (started known (Along cw)) n .drive .going) (0 ∷ 1 ∷ 2 ∷ 4 ∷ 6 ∷ 7 ∷ []) ≡ 1 ∷ 0 ∷ 1 ∷ 1 ∷ 1 ∷ 0 ∷ [])
+    × (map (λ n. switchRead (started known (Along ccw)) n .ended) (0 ∷ 1 ∷ 2 ∷ 5 ∷ 6 ∷ 7 ∷ []) ≡ 0 ∷ 0 ∷ 0x20 ∷ 0 ∷ 0x20 ∷ 0x20 ∷ [])
     × (switchRead freshMotor 7 .wiring .contacts ≡ 7) × (switchRead freshMotor 7 .ended ≡ 0)
-unfolding computing-drive
+unfolding computing-drive known
 readings = (refl, refl, refl, refl)
+
+-- 02 §2: every reading makes the contacts known, one of open contacts too; neither an end of the drive nor a stop makes them unknown
+-- again.
+known-from-then :
+    (map (λ n. switchRead freshMotor n .wiring .read) (0 ∷ 1 ∷ 7 ∷ []) ≡ 1 ∷ 1 ∷ 1 ∷ [])
+    × (map (λ n. switchRead (started known (Along cw)) n .wiring .read) (0 ∷ 1 ∷ []) ≡ 1 ∷ 1 ∷ [])
+    × (stopped 0x40 (started known (Along cw)) .wiring .read ≡ 1)
+unfolding computing-drive known
+known-from-then = (refl, refl, refl)
 
 -- the fresh motor with SETMT's A at 0
 disabled : Motor
 disabled = withSetup freshMotor (record { a = 0; b = 1; c = 0; d = 0 })
 
--- Starts of a stopped motor as they are judged: to the present place, whatever A says; past the range; with A = 0; onto an
--- active switch; and with no room.
+-- Starts of a stopped motor as they are judged: to the present place, whatever A says; past the range; with A = 0, unread besides;
+-- onto an active switch; and with no room.
 starts :
     (courseTo freshMotor cw origin 0 ≡ Stay) × (judgeStart disabled Stay ≡ Done)
     × (courseTo freshMotor ccw origin 2147483648 ≡ Beyond) × (courseTo freshMotor cw (origin + 1) 2147483647 ≡ Beyond)
     × (courseTo freshMotor ccw (origin - 1) 2147483646 ≡ To 1) × (judgeStart disabled Beyond ≡ OutOfRange)
-    × (judgeStart disabled (Along cw) ≡ Disabled) × (judgeStart (wired 0b00010001 0) (Along cw) ≡ SwitchAhead)
-    × (judgeStart (wired 0b00010001 0) (Along ccw) ≡ Done) × (judgeStart (limited 800 0) (To (origin + 9)) ≡ NoRoom)
-    × (judgeStart (limited 800 0) (To (origin - 9)) ≡ Done)
-unfolding computing-drive disabled wired limited atSpeed
+    × (judgeStart disabled (Along cw) ≡ Disabled) × (judgeStart (wired 0b00010001 0 1) (Along cw) ≡ SwitchAhead)
+    × (judgeStart (wired 0b00010001 0 1) (Along ccw) ≡ Done) × (judgeStart (limited 0 1) (To (origin + 9)) ≡ NoRoom)
+    × (judgeStart (limited 0 1) (To (origin - 9)) ≡ Done)
+unfolding computing-drive disabled wired limited
 starts = (refl, refl, refl, refl, refl, refl, refl, refl, refl, refl, refl)
+
+-- 02 §2: an unread motor does not leave, either way, whatever SETLS enables and whatever room there is; to the present place is done,
+-- and past the range is out of range. Read, it leaves, but for what a switch or the room hinders.
+unread-starts :
+    (map (judgeStart freshMotor) (Along cw ∷ Along ccw ∷ To 1 ∷ To highest ∷ Stay ∷ Beyond ∷ []) ≡ Unread ∷ Unread ∷ Unread ∷ Unread ∷ Done ∷ OutOfRange ∷ [])
+    × (map (λ w. judgeStart (wired w 0 0) (Along cw)) (0 ∷ 0b00010001 ∷ 0b00000001 ∷ []) ≡ Unread ∷ Unread ∷ Unread ∷ [])
+    × (judgeStart (limited 0 0) (Along cw) ≡ Unread)
+    × (map (λ n. judgeStart (switchRead freshMotor n) (Along cw)) (0 ∷ 1 ∷ 2 ∷ 4 ∷ []) ≡ Done ∷ SwitchAhead ∷ Done ∷ Done ∷ [])
+    × (map (λ n. judgeStart (switchRead freshMotor n) (Along ccw)) (0 ∷ 1 ∷ 2 ∷ 4 ∷ []) ≡ Done ∷ Done ∷ SwitchAhead ∷ Done ∷ [])
+unfolding computing-drive wired limited
+unread-starts = (refl, refl, refl, refl, refl)
 
 -- "Numbers handed back", cause by cause, in the order of the list.
 numbers :
-    map numberOf (Done ∷ NoForm ∷ Busy ∷ OutOfRange ∷ LocalMode ∷ Disabled ∷ SwitchAhead ∷ NoRoom ∷ NotDriving ∷ WrongSize ∷ NotSound ∷ [])
-    ≡ 0 ∷ 1 ∷ 2 ∷ 3 ∷ 4 ∷ 4 ∷ 4 ∷ 4 ∷ 4 ∷ 5 ∷ 6 ∷ []
+    map numberOf (Done ∷ NoForm ∷ Busy ∷ OutOfRange ∷ LocalMode ∷ Disabled ∷ Unread ∷ SwitchAhead ∷ NoRoom ∷ NotDriving ∷ WrongSize ∷ NotSound ∷ [])
+    ≡ 0 ∷ 1 ∷ 2 ∷ 3 ∷ 4 ∷ 4 ∷ 4 ∷ 4 ∷ 4 ∷ 4 ∷ 5 ∷ 6 ∷ []
 unfolding computing-drive
 numbers = refl
 

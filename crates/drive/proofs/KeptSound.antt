@@ -13,12 +13,12 @@ use Rattle.record.specs.declared.Wiring.{Wiring}
 use Rattle.record.specs.declared.Setup.{Setup}
 use Rattle.record.specs.declared.Motor.{Motor}
 use Rattle.record.specs.Record.{withPlace, withLimits, withSpeeds, withWiring, withSetup}
-use Rattle.motor.specs.Switches.{blocked, edge, room}
-use Rattle.motor.specs.Sound.{isSpeed, limitsInRange, speedsInRange, wiringInRange, setupInRange, endFlagsInRange, driveInRange, aimRight, busy, soundMotor}
+use Rattle.motor.specs.Switches.{unread, blocked, edge, room}
+use Rattle.motor.specs.Sound.{isSpeed, limitsInRange, speedsInRange, wiringInRange, contactsRight, setupInRange, endFlagsInRange, driveInRange, aimRight, busy, soundMotor}
 use Rattle.motor.proofs.SoundLaws.{and-l, and-r, speed-bounds, InRange, Bounds, sound-parts, sound-busy, busy-sound, sound-standing, standing-sound, range-bounds, sound-bounds, target-position, bounds-drive}
 use Rattle.drive.specs.declared.Course.{Course}
 use Rattle.drive.specs.declared.Course.the-variants.{Stay, Beyond, To, Along}
-use Rattle.drive.specs.declared.Verdict.the-variants.{Done, Disabled, SwitchAhead, NoRoom}
+use Rattle.drive.specs.declared.Verdict.the-variants.{Done, Disabled, Unread, SwitchAhead, NoRoom}
 use Rattle.drive.specs.Drives.{lsend, speedNumbered, selectedSpeed, courseTo, towards, hindrance, judgeStart, wellAimed, launched, started, endedWith, stopped, speedChanged, contacted, switchRead}
 
 -- A drive that ends leaves a sound motor, whatever ends it.
@@ -50,7 +50,7 @@ speed-changed-sound m v e d s =
 
 -- A switch reading leaves a sound motor.
 contacts-in-range : (m : Motor) (n : ℕ) → n ≤ 7 → InRange m → InRange (contacted m n)
-unfolding wiringInRange
+unfolding wiringInRange contactsRight
 contacts-in-range m n h r =
     let kept = and-l (leb (m .wiring .setls) 255 && not (isSet 3 (m .wiring .setls))) (leb (m .wiring .contacts) 7) (r .wiring) in
     let wiring : wiringInRange (contacted m n .wiring) ≡ true = cc (le-leb n 7 h) in
@@ -80,18 +80,26 @@ course-aimed m going p n = go (eqb (moved going p n) (m .place)) refl (isPositio
     go false e true f = rw (f, e)
     go false e false f = refl
 
--- What nothing keeps from leaving has A = 1, no active enabled switch ahead, and room.
-pub nothing-hinders :
-    (m : Motor) (going : ℕ) → hindrance m going ≡ Done
-    → (eqb (m .setup .a) 0 ≡ false) × (blocked going m ≡ false) × (eqb (room going m) 0 ≡ false)
+-- What nothing keeps from leaving has A = 1, contacts that are read, no active enabled switch ahead, and room.
+pub record Unhindered (m : Motor) (going : ℕ) : Type 0 where
+  pub ready : eqb (m .setup .a) 0 ≡ false
+  pub read : unread (m .wiring) ≡ false
+  pub clear : blocked going m ≡ false
+  pub leeway : eqb (room going m) 0 ≡ false
+
+pub nothing-hinders : (m : Motor) (going : ℕ) → hindrance m going ≡ Done → Unhindered m going
 unfolding hindrance
-nothing-hinders m going = go (eqb (m .setup .a) 0) (blocked going m) (eqb (room going m) 0)
+nothing-hinders m going h =
+    let p = go (eqb (m .setup .a) 0) (unread (m .wiring)) (blocked going m) (eqb (room going m) 0) h in
+    record { ready = p .0; read = p .1; clear = p .2; leeway = p .3 }
   where
-    go : (a b r : Bool) → cond a Disabled (cond b SwitchAhead (cond r NoRoom Done)) ≡ Done → (a ≡ false) × (b ≡ false) × (r ≡ false)
-    go true b r e = (cc, cc, cc)
-    go false true r e = (refl, cc, cc)
-    go false false true e = (refl, refl, cc)
-    go false false false e = (refl, refl, refl)
+    go : (a u b r : Bool) → cond a Disabled (cond u Unread (cond b SwitchAhead (cond r NoRoom Done))) ≡ Done
+        → (a ≡ false) × (u ≡ false) × (b ≡ false) × (r ≡ false)
+    go true u b r e = (cc, cc, cc, cc)
+    go false true b r e = (refl, cc, cc, cc)
+    go false false true r e = (refl, refl, cc, cc)
+    go false false false true e = (refl, refl, refl, cc)
+    go false false false false e = (refl, refl, refl, refl)
 
 -- The selected speed of a sound motor is a speed.
 pub selected-bounds : (m : Motor) → InRange m → (1 ≤ selectedSpeed m) × (selectedSpeed m ≤ 5000000)
@@ -115,8 +123,9 @@ launched-sound m going kind target r h low high k t a =
     let n = nothing-hinders m going h in
     let v = selected-bounds m r in
     let drive = bounds-drive (launched m going kind target .drive) high k (omega arith) t in
-    let ready : m .setup .a ≡ 1 = omega (arith, eqb-false (m .setup .a) 0 (n .0), range-bounds m r .setup) in
-    let leeway : 1 ≤ room going m = omega (arith, eqb-false (room going m) 0 (n .2)) in
+    let ready : m .setup .a ≡ 1 = omega (arith, eqb-false (m .setup .a) 0 (n .ready), range-bounds m r .setup) in
+    let read : m .wiring .read ≡ 1 = omega (arith, eqb-false (m .wiring .read) 0 (n .read), range-bounds m r .read) in
+    let leeway : 1 ≤ room going m = omega (arith, eqb-false (room going m) 0 (n .leeway)) in
     busy-sound (launched m going kind target) (search) (search) (rw (ne-eqb going 0 (omega arith)))
 
 -- Another place lies ahead in the direction towards it, which is CW or CCW.
@@ -170,8 +179,8 @@ module _ (m : Motor) (d : busy m ≡ false) (s : soundMotor m ≡ true) where
   pub speeds-set-sound : (v : Speeds) → speedsInRange v ≡ true → soundMotor (withSpeeds m v) ≡ true
   speeds-set-sound v h = set-sound (withSpeeds m v) (search r) refl
 
-  pub wiring-set-sound : (w : Wiring) → wiringInRange w ≡ true → soundMotor (withWiring m w) ≡ true
-  wiring-set-sound w h = set-sound (withWiring m w) (search r) refl
+  pub wiring-set-sound : (w : Wiring) → wiringInRange w ≡ true → contactsRight w ≡ true → soundMotor (withWiring m w) ≡ true
+  wiring-set-sound w h k = set-sound (withWiring m w) (search r) refl
 
   pub setup-set-sound : (u : Setup) → setupInRange u ≡ true → soundMotor (withSetup m u) ≡ true
   setup-set-sound u h = set-sound (withSetup m u) (search r) refl

@@ -8,9 +8,9 @@ use Rattle.record.specs.declared.Motor.{Motor}
 use Rattle.drive.specs.declared.Course.{Course}
 use Rattle.drive.specs.declared.Course.the-variants.{Stay, Beyond, To, Along}
 use Rattle.drive.specs.declared.Verdict.{Verdict}
-use Rattle.drive.specs.declared.Verdict.the-variants.{Done, OutOfRange, Disabled, SwitchAhead, NoRoom, NotDriving}
+use Rattle.drive.specs.declared.Verdict.the-variants.{Done, OutOfRange, Disabled, Unread, SwitchAhead, NoRoom, NotDriving}
 use Rattle.record.specs.Record.{withWiring, withDrive, withSpeedInForce, standing}
-use Rattle.motor.specs.Switches.{blocked, room}
+use Rattle.motor.specs.Switches.{unread, blocked, room}
 use Rattle.motor.specs.Sound.{busy}
 
 -- "20h LSEND"
@@ -36,13 +36,15 @@ courseTo m going p n =
 unfoldable pub towards : Motor → ℕ → ℕ
 towards m p = cond (ltb (m .place) p) cw ccw
 
--- what keeps a stopped motor from leaving in a direction: "A = 0; an active enabled switch ahead; no room"
+-- what keeps a stopped motor from leaving in a direction: "A = 0; an active enabled switch ahead; no room"; and, after A, 02 §2:
+-- "a start on an unread channel is 4, after the target check"
 unfoldable pub hindrance : Motor → ℕ → Verdict
 hindrance m going =
     cond (eqb (m .setup .a) 0) Disabled
+    (cond (unread (m .wiring)) Unread
     (cond (blocked going m) SwitchAhead
     (cond (eqb (room going m) 0) NoRoom
-    Done))
+    Done)))
 
 -- of a stopped motor: "target out of range (3, for REL and JOG ..), the other causes of 4"; ABS to the present position and
 -- REL 0 "meet no later check"
@@ -88,9 +90,9 @@ judgeSpeedChange m = cond (busy m) Done NotDriving
 unfoldable pub speedChanged : Motor → ℕ → Motor
 speedChanged m v = withDrive m (m .ended) (withSpeedInForce (m .drive) v)
 
--- "A switch reading replaces the contacts."
+-- "A switch reading replaces the contacts." 02 §2: they are known from "the channel's first accepted reading" on
 abbrev pub contacted : Motor → ℕ → Motor
-contacted m n = withWiring m (record { setls = m .wiring .setls; contacts = n })
+contacted m n = withWiring m (record { setls = m .wiring .setls; contacts = n; read = 1 })
 
 -- "If the channel drives and the switch of its direction is now active and enabled, the drive ends at once with LSEND. HP
 -- ends nothing here."

@@ -13,6 +13,7 @@ use digits::places::ORIGIN;
 use digits::places::place_ahead;
 use motor::is_blocked;
 use motor::is_busy;
+use motor::is_unread;
 use motor::room_of;
 use record::Drive;
 use record::Motor;
@@ -44,6 +45,7 @@ pub enum Verdict {
     OutOfRange,
     LocalMode,
     Disabled,
+    Unread,
     SwitchAhead,
     NoRoom,
     NotDriving,
@@ -97,6 +99,9 @@ fn hindrance_to(m: Motor, going: u8) -> Verdict
 {
     if m.setup.a == 0 {
         return Verdict::Disabled;
+    }
+    if is_unread(m.wiring) {
+        return Verdict::Unread;
     }
     if is_blocked(going, m) {
         return Verdict::SwitchAhead;
@@ -181,13 +186,14 @@ pub fn change_speed(m: Motor, v: u32) -> Motor
     with_drive(m, m.ended, d)
 }
 
-// The motor with other contacts.
+// The motor with other contacts, which are known from now on.
 fn with_contacts(m: Motor, contacts: u8) -> Motor
     ensures { λ r. ⌜ r ≡ contacted m contacts ⌝ }
 {
     let mut n = m;
     let mut w = m.wiring;
     w.contacts = contacts;
+    w.read = 1;
     n.wiring = w;
     n
 }

@@ -9,7 +9,7 @@ use Rattle.digits.specs.Places.{origin, isPosition, moved, cw, ccw}
 use Rattle.digits.specs.Words.{isSet}
 use Rattle.record.specs.declared.Speeds.{Speeds}
 use Rattle.record.specs.declared.Motor.{Motor}
-use Rattle.motor.specs.Sound.{isSpeed, limitsInRange, speedsInRange, wiringInRange, endFlagsInRange, busy, soundMotor}
+use Rattle.motor.specs.Sound.{isSpeed, limitsInRange, speedsInRange, wiringInRange, contactsRight, endFlagsInRange, busy, soundMotor}
 use Rattle.motor.proofs.SoundLaws.{and-l, and-r, sound-parts, bounds-position}
 use Rattle.drive.specs.declared.Verdict.the-variants.{Done}
 use Rattle.drive.specs.Drives.{judgeStart, wellAimed, started, stopped, speedChanged, switchRead}
@@ -59,10 +59,10 @@ written-position w e = go (w .minus)
 pub byte-of : (q : Four) → Binary q → binary q ≤ 15
 byte-of q d = omega (arith, d .a, d .b, d .c, d .d)
 
-switches-in-range : (q r : Four) (n : ℕ) → (binaryDigits q && binaryDigits r) ≡ true → eqb (r .a) 0 ≡ true → leb n 7 ≡ true
-    → wiringInRange (record { setls = 16 * binary q + binary r; contacts = n }) ≡ true
+switches-in-range : (q r : Four) (n k : ℕ) → (binaryDigits q && binaryDigits r) ≡ true → eqb (r .a) 0 ≡ true → leb n 7 ≡ true
+    → wiringInRange (record { setls = 16 * binary q + binary r; contacts = n; read = k }) ≡ true
 unfolding wiringInRange
-switches-in-range q r n e z h =
+switches-in-range q r n k e z h =
     let x = binary-bound q (and-l (binaryDigits q) (binaryDigits r) e) in
     let y = binary-bound r (and-r (binaryDigits q) (binaryDigits r) e) in
     let clear : (16 * binary q + binary r) / 8 % 2 ≡ 0 = omega (arith, eqb-true (r .a) 0 z, x .a, x .b, x .c, x .d, y .b, y .c, y .d) in
@@ -93,7 +93,7 @@ contacts-bound m o = and-r (leb (m .wiring .setls) 255 && not (isSet 3 (m .wirin
 -- An accepted setting leaves a sound motor.
 setting-sound : (m : Motor) (s : Setting) → soundMotor m ≡ true → busy m ≡ false → settingInRange s ≡ true → settingMade s ≡ true
     → soundMotor (withSetting m s) ≡ true
-unfolding withSetting limitsInRange
+unfolding withSetting limitsInRange contactsRight
 setting-sound m (Preset w) o d h k = place-set-sound m d o (placeWritten w) (written-position w h)
 setting-sound m (SetCwLimit w) o d h k =
     limits-set-sound m d o (record { cw = placeWritten w; ccw = m .limits .ccw })
@@ -106,8 +106,8 @@ setting-sound m (Select n) o d h k =
 setting-sound m (SetSpeed n v) o d h k =
     speeds-set-sound m d o (withSpeed (m .speeds) n v) (speed-in-range (m .speeds) n v (sound-parts m o .range .speeds) h)
 setting-sound m (SetSwitches q r) o d h k =
-    wiring-set-sound m d o (record { setls = 16 * binary q + binary r; contacts = m .wiring .contacts })
-    (switches-in-range q r (m .wiring .contacts) h k (contacts-bound m o))
+    wiring-set-sound m d o (record { setls = 16 * binary q + binary r; contacts = m .wiring .contacts; read = m .wiring .read })
+    (switches-in-range q r (m .wiring .contacts) (m .wiring .read) h k (contacts-bound m o)) (sound-parts m o .range .read)
 setting-sound m (SetMotor q) o d h k = setup-set-sound m d o (setupWritten q) h
 
 -- A deed that fits leaves a sound motor.

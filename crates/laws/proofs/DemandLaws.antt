@@ -7,6 +7,7 @@ use Rattle.laws.proofs.ChangeLaws.{changes}
 use Rattle.laws.proofs.AnswerLaws.{replies}
 use Rattle.laws.proofs.ReadBackLaws.{reads-back}
 use Rattle.laws.proofs.SettledLaws.{settled-so}
+use Rattle.laws.proofs.ContactLaws.{contacts-so}
 use Rattle.laws.proofs.LastingLaws.{lasting}
 use Rattle.laws.proofs.PulseLaws.{demand-3}
 use Rattle.laws.proofs.LastTickLaws.{last-tick}
@@ -20,6 +21,7 @@ demands =
       neighbours = neighbours;
       readBack = reads-back;
       settled = settled-so;
+      contacts = contacts-so;
       lasting = lasting;
       pulses = demand-3;
       lastTick = last-tick;

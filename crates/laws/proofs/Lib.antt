@@ -13,6 +13,7 @@ pub mod SettingLaws
 pub mod ReadBackLaws
 pub mod AnswerLaws
 pub mod SettledLaws
+pub mod ContactLaws
 pub mod ChangeLaws
 pub mod DemandLaws
 pub mod OneLibrary

@@ -61,7 +61,7 @@ set-same m n (SetSwitches q r) p = record { limits = p .limits; speeds = p .spee
 set-same m n (SetMotor q) p = record { limits = p .limits; speeds = p .speeds; wiring = p .wiring; setup = refl }
 
 -- Whatever a deed does to the motor n, its settings are what the deed makes of the settings m.
-performed-same : (m n : Motor) (d : Deed) → SameSettings m n → SameSettings (settled m d) (performed n d)
+pub performed-same : (m n : Motor) (d : Deed) → SameSettings m n → SameSettings (settled m d) (performed n d)
 unfolding settled performed stopped speedChanged switchRead
 performed-same m n (starts s) p = same-on m n (started n (courseOf n s)) p (started-same n (courseOf n s))
 performed-same m n (stops flags) p = same-on m n _ p (either-same (busy n) n (endedWith flags n) n (search) (search))

@@ -10,6 +10,7 @@ use Rattle.laws.specs.Numbers.{Numbers, Replies, Changes}
 use Rattle.laws.specs.Neighbours.{Neighbours}
 use Rattle.laws.specs.ReadBack.{ReadsBack}
 use Rattle.laws.specs.Pulses.{Lasting, Demand3, Settled, LastTick}
+use Rattle.laws.specs.Contacts.{Contacts}
 
 pub record Demands (l : Library) : Type 0 where
   -- 1. "Every call takes all inputs .. Each refusal has its number, and document 01 says what it leaves in the table, the reply and
@@ -24,6 +25,8 @@ pub record Demands (l : Library) : Type 0 where
   pub readBack : (b : Beginning) (ks : List Call) (k : Call) (later : List Call) (line reply : List ℕ) (enough : 32 ≤ length reply)
       → ReadsBack l b ks k later line reply enough
   pub settled : (b : Beginning) (c : ℕ) → c ≤ 15 → (ks : List Call) → Settled l b c ks
+  -- and by 02 §2 "Contacts must be unknown until the channel's first accepted reading", which alone lets it move
+  pub contacts : (b : Beginning) (c : ℕ) → c ≤ 15 → (ks : List Call) → Contacts l b c ks
   -- 3. "For any sequence of commands, readings and ticks after a fresh table, refused ones included, where nothing else writes to the
   -- table", of each channel
   pub lasting : Lasting l

@@ -5,5 +5,6 @@ pub mod Numbers
 pub mod Neighbours
 pub mod ReadBack
 pub mod Pulses
+pub mod Contacts
 pub mod Demands
 pub mod Computing

@@ -3,18 +3,19 @@ use mathlib.Core.Path.{_≡_, refl}
 use mathlib.Core.List.{List, [], _∷_, _++_, map}
 use mathlib.Core.Bool.{Bool, true, false}
 use Prim.Native.Nat.{ℕ, _+_, _-_}
+use lib.ListN.{replicate}
 use Rattle.digits.specs.Bytes.{put}
 use Rattle.digits.specs.Words.{wordBytes}
 use Rattle.digits.specs.Places.{origin, cw, ccw}
 use Rattle.record.specs.declared.Motor.{Motor}
-use Rattle.record.specs.Record.{recordOf, freshMotor, withPlace, withLimits, withWiring, withDrive}
+use Rattle.record.specs.Record.{recordOf, freshMotor, withPlace, withLimits, withWiring, withDrive, standing}
 use Rattle.motor.specs.Switches.{active, blocked, room}
 use Rattle.motor.specs.Sound.{soundRecord}
 use Rattle.motor.specs.Computing.{computing-motor}
 
--- a fresh motor with the SETLS byte and the contacts given, and with the CW limit at position n and D = 1
+-- a fresh motor whose contacts are read, with the SETLS byte and the contacts given, and with the CW limit at position n and D = 1
 wired : ℕ → ℕ → Motor
-wired setls contacts = withWiring freshMotor (record { setls = setls; contacts = contacts })
+wired setls contacts = withWiring freshMotor (record { setls = setls; contacts = contacts; read = 1 })
 
 limited : ℕ → Motor
 limited n = withLimits (wired 0b11110000 0) (record { cw = origin + n; ccw = origin - 1000000 })
@@ -38,13 +39,16 @@ rooms :
 unfolding computing-motor limited wired
 rooms = (refl, refl, refl, refl, refl, refl, refl, refl)
 
--- a fresh motor that drives CW to position +5 at 800 pps
+-- a fresh motor with its contacts read and open, that drives CW to position +5 at 800 pps
 underway : Motor
-underway = withDrive freshMotor 0 (record { going = cw; kind = 1; fraction = 0; speed = 800; target = origin + 5 })
+underway = withDrive (wired 0b01110000 0) 0 (record { going = cw; kind = 1; fraction = 0; speed = 800; target = origin + 5 })
 
--- a fresh record's bytes, and those of a record that drives
+-- a fresh record's bytes, those of one whose contacts are read, and those of a record that drives
 fresh-bytes : List ℕ
 fresh-bytes = recordOf freshMotor
+
+read-bytes : List ℕ
+read-bytes = recordOf (wired 0b01110000 0)
 
 driving-bytes : List ℕ
 driving-bytes = recordOf underway
@@ -62,11 +66,11 @@ soundness :
     × (map (λ at. damaged fresh-bytes at (wordBytes 4 0)) (12 ∷ 16 ∷ 20 ∷ []) ≡ false ∷ false ∷ false ∷ [])
     × (map (λ n. damaged fresh-bytes 24 (n ∷ [])) (0 ∷ 2 ∷ 3 ∷ []) ≡ true ∷ true ∷ false ∷ [])
     × (map (λ n. damaged fresh-bytes 25 (n ∷ [])) (0b11110111 ∷ 0b01111000 ∷ 255 ∷ []) ≡ true ∷ false ∷ false ∷ [])
-    × (map (λ n. damaged fresh-bytes 26 (n ∷ [])) (7 ∷ 8 ∷ []) ≡ true ∷ false ∷ [])
+    × (map (λ n. damaged read-bytes 26 (n ∷ [])) (7 ∷ 8 ∷ []) ≡ true ∷ false ∷ [])
     × (map (λ n. damaged fresh-bytes 27 n) ((0 ∷ 0 ∷ 0 ∷ 2 ∷ []) ∷ (2 ∷ []) ∷ (1 ∷ 2 ∷ []) ∷ (1 ∷ 1 ∷ 1 ∷ []) ∷ (1 ∷ 1 ∷ 0 ∷ 3 ∷ []) ∷ []) ≡ true ∷ false ∷ false ∷ false ∷ false ∷ [])
     × (map (λ n. damaged fresh-bytes 31 (n ∷ [])) (0x80 ∷ 0x40 ∷ 0x20 ∷ 0xc0 ∷ 1 ∷ []) ≡ true ∷ true ∷ true ∷ false ∷ false ∷ [])
-    × (map (λ at. damaged fresh-bytes at (1 ∷ [])) (32 ∷ 33 ∷ 34 ∷ 35 ∷ 36 ∷ 39 ∷ 40 ∷ 43 ∷ 44 ∷ 63 ∷ []) ≡ false ∷ false ∷ false ∷ false ∷ false ∷ false ∷ false ∷ false ∷ false ∷ false ∷ [])
-unfolding computing-motor damaged fresh-bytes
+    × (map (λ at. damaged fresh-bytes at (1 ∷ [])) (32 ∷ 33 ∷ 34 ∷ 35 ∷ 36 ∷ 39 ∷ 40 ∷ 43 ∷ 45 ∷ 47 ∷ 48 ∷ 63 ∷ []) ≡ replicate 12 false)
+unfolding computing-motor damaged fresh-bytes read-bytes wired
 soundness = (refl, refl, refl, refl, refl, refl, refl, refl, refl, refl, refl, refl)
 
 -- Of a driving record: end flags 0, A = 1, a pulse of room, no active enabled switch ahead, a target strictly ahead or, for
@@ -81,5 +85,16 @@ busy-soundness :
     × (map (λ n. damaged driving-bytes 34 (wordBytes 2 n)) (999 ∷ 1000 ∷ []) ≡ true ∷ false ∷ [])
     × (map (λ n. damaged driving-bytes 36 (wordBytes 4 n)) (0 ∷ 1 ∷ 5000000 ∷ 5000001 ∷ []) ≡ false ∷ true ∷ true ∷ false ∷ [])
     × (soundRecord [] ≡ false) × (soundRecord (driving-bytes ++ (0 ∷ [])) ≡ false)
-unfolding computing-motor damaged driving-bytes underway
+unfolding computing-motor damaged driving-bytes underway wired
 busy-soundness = (refl, refl, refl, refl, refl, refl, refl, refl, refl, refl, refl, refl)
+
+-- 02 §2: "Record byte 44 says so (0 unknown, with contacts 0; 1 read); a driving record has 1." Fresh, with contacts closed, driving,
+-- and stopped again.
+contacts-soundness :
+    (map (λ n. damaged fresh-bytes 44 (n ∷ [])) (0 ∷ 1 ∷ 2 ∷ 255 ∷ []) ≡ true ∷ true ∷ false ∷ false ∷ [])
+    × (map (λ n. damaged fresh-bytes 26 (n ∷ [])) (0 ∷ 1 ∷ 2 ∷ 4 ∷ []) ≡ true ∷ false ∷ false ∷ false ∷ [])
+    × (map (λ n. damaged (recordOf (wired 0b01110000 5)) 44 (n ∷ [])) (0 ∷ 1 ∷ 2 ∷ []) ≡ false ∷ true ∷ false ∷ [])
+    × (map (λ n. damaged driving-bytes 44 (n ∷ [])) (0 ∷ 1 ∷ 2 ∷ []) ≡ false ∷ true ∷ false ∷ [])
+    × (map (λ n. damaged (recordOf (withDrive underway 0x40 standing)) 44 (n ∷ [])) (0 ∷ 1 ∷ []) ≡ true ∷ true ∷ [])
+unfolding computing-motor damaged fresh-bytes driving-bytes underway wired
+contacts-soundness = (refl, refl, refl, refl, refl)

@@ -7,10 +7,10 @@ use native.Mathlib.Omega.{arith}
 use lib.ListN.{length}
 use lib.Dec.{eqb}
 use borrow.Author.Tests.{eqb-true}
-use Rattle.digits.specs.Bytes.{AllBytes, allZero}
+use Rattle.digits.specs.Bytes.{AllBytes}
 use Rattle.record.specs.declared.Motor.{Motor}
 use Rattle.record.specs.Record.{motorOf, recordOf, restZero}
-use Rattle.record.proofs.RoundTrip.{FitsRecord, FitsBytes, written-read, read-written, record-length, record-bytes, rest-part}
+use Rattle.record.proofs.RoundTrip.{FitsRecord, FitsBytes, written-read, read-written, record-length, record-bytes, rest-clear}
 use Rattle.motor.specs.Sound.{busy, soundMotor, soundRecord}
 use Rattle.motor.proofs.SoundLaws.{and-l, and-r, sound-bounds, sound-busy, sound-standing}
 
@@ -41,8 +41,8 @@ sound-read-written b s bytes =
 
 -- The record of a sound motor is sound, and its bytes are bytes; and a sound record holds a sound motor.
 pub record-sound : (m : Motor) → soundMotor m ≡ true → soundRecord (recordOf m) ≡ true
-unfolding soundRecord allZero
-record-sound m s = rw (record-length m, sound-written-read m s, s, rest-part m)
+unfolding soundRecord
+record-sound m s = rw (record-length m, sound-written-read m s, s, rest-clear m)
 
 pub sound-record-bytes : (m : Motor) → soundMotor m ≡ true → AllBytes (recordOf m)
 sound-record-bytes m s = record-bytes m (sound-fits-bytes m s)

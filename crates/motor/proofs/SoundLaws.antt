@@ -7,11 +7,12 @@ use native.Mathlib.Omega.{arith}
 use lib.Dec.{eqb, leb}
 use borrow.Author.Tests.{leb-true, leb-false, le-leb, eqb-true, eqb-false, eq-eqb, ne-eqb, not-true, not-false}
 use Rattle.digits.specs.Places.{origin, isPosition, cw, ccw}
+use Rattle.record.specs.declared.Wiring.{Wiring}
 use Rattle.record.specs.declared.Drive.{Drive}
 use Rattle.record.specs.declared.Motor.{Motor}
 use Rattle.record.specs.Record.{standing}
-use Rattle.motor.specs.Switches.{blocked, room}
-use Rattle.motor.specs.Sound.{isSpeed, limitsInRange, speedsInRange, wiringInRange, setupInRange, endFlagsInRange, driveInRange, settingsInRange, inRange, atRest, aimRight, underWay, busy, soundMotor}
+use Rattle.motor.specs.Switches.{unread, blocked, room}
+use Rattle.motor.specs.Sound.{isSpeed, limitsInRange, speedsInRange, wiringInRange, contactsRight, setupInRange, endFlagsInRange, driveInRange, settingsInRange, inRange, atRest, aimRight, underWay, busy, soundMotor}
 
 -- Of a conjunction that holds, both parts hold.
 pub and-l : (a b : Bool) → (a && b) ≡ true → a ≡ true
@@ -39,22 +40,24 @@ pub record InRange (m : Motor) : Type 0 where
   pub wiring : wiringInRange (m .wiring) ≡ true
   pub setup : setupInRange (m .setup) ≡ true
   pub ended : endFlagsInRange (m .ended) ≡ true
+  pub read : contactsRight (m .wiring) ≡ true
   pub drive : driveInRange (m .drive) ≡ true
 
 -- Fields in range are in range topic by topic, and the other way round.
 pub range-parts : (m : Motor) → inRange m ≡ true → InRange m
 unfolding inRange settingsInRange
-range-parts m e = search (and-l, and-r)
+range-parts m e = search (and-l, and-r) depth 7
 
 pub parts-range : (m : Motor) → InRange m → inRange m ≡ true
 unfolding inRange settingsInRange
 parts-range m r = cc
 
 -- "a driving record has end flags 0, A = 1, at least one pulse of room (below), no active enabled switch in its direction,
--- and" its aim; and a speed in force
+-- and" its aim; contacts that are read, and a speed in force
 pub record UnderWay (m : Motor) : Type 0 where
   pub flags : m .ended ≡ 0
   pub ready : m .setup .a ≡ 1
+  pub read : m .wiring .read ≡ 1
   pub slowest : 1 ≤ m .drive .speed
   pub fastest : m .drive .speed ≤ 5000000
   pub leeway : 1 ≤ room (m .drive .going) m
@@ -68,7 +71,7 @@ way-parts m e = search (and-l, and-r, leb-true, eqb-true, not-true)
 
 pub parts-way : (m : Motor) → UnderWay m → underWay m ≡ true
 unfolding underWay
-parts-way m w = cc (eq-eqb _ _ (w .flags), eq-eqb _ _ (w .ready), le-leb _ _ (w .slowest), le-leb _ _ (w .fastest), le-leb _ _ (w .leeway))
+parts-way m w = cc (eq-eqb _ _ (w .flags), eq-eqb _ _ (w .ready), eq-eqb _ _ (w .read), le-leb _ _ (w .slowest), le-leb _ _ (w .fastest), le-leb _ _ (w .leeway))
 
 -- a sound motor in its parts: its fields, and the rules for a stopped or for a driving record
 pub record Sound (m : Motor) : Type 0 where
@@ -131,6 +134,7 @@ pub record Bounds (m : Motor) : Type 0 where
   pub selected : m .speeds .selected ≤ 2
   pub setls : m .wiring .setls ≤ 255
   pub contacts : m .wiring .contacts ≤ 7
+  pub read : m .wiring .read ≤ 1
   pub setup : (m .setup .a ≤ 1) × (m .setup .b ≤ 1) × (m .setup .c ≡ 0) × (m .setup .d ≤ 2)
   pub ended : m .ended ≤ 128
   pub going : m .drive .going ≤ 2
@@ -148,9 +152,17 @@ flags-bound e h = go (leb e 128) refl
         let above = leb-false e 128 q in
         absurd (false≢true (rw (ne-eqb e 0 (omega arith), ne-eqb e 0x20 (omega arith), ne-eqb e 0x40 (omega arith), ne-eqb e 0x80 (omega arith)) at h))
 
+read-bound : (w : Wiring) → contactsRight w ≡ true → w .read ≤ 1
+unfolding contactsRight
+read-bound w = go (unread w) refl
+  where
+    go : (t : Bool) → unread w ≡ t → cond t (eqb (w .contacts) 0) (eqb (w .read) 1) ≡ true → w .read ≤ 1
+    go true u h = omega (arith, eqb-true (w .read) 0 u)
+    go false u h = omega (arith, eqb-true (w .read) 1 h)
+
 pub range-bounds : (m : Motor) → InRange m → Bounds m
 unfolding limitsInRange speedsInRange wiringInRange setupInRange driveInRange
-range-bounds m r = search (and-l, and-r, leb-true, eqb-true, flags-bound)
+range-bounds m r = search (and-l, and-r, leb-true, eqb-true, flags-bound, read-bound)
 
 pub sound-bounds : (m : Motor) → soundMotor m ≡ true → Bounds m
 sound-bounds m e = range-bounds m (sound-parts m e .range)

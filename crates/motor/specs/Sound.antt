@@ -14,7 +14,7 @@ use Rattle.record.specs.declared.Setup.{Setup}
 use Rattle.record.specs.declared.Drive.{Drive}
 use Rattle.record.specs.declared.Motor.{Motor}
 use Rattle.record.specs.Record.{motorOf, restZero}
-use Rattle.motor.specs.Switches.{blocked, room}
+use Rattle.motor.specs.Switches.{unread, blocked, room}
 
 -- "Speeds run from 1 to 5,000,000 pulses per second"
 abbrev pub isSpeed : ℕ → Bool
@@ -31,6 +31,10 @@ speedsInRange s = isSpeed (s .high) && isSpeed (s .middle) && isSpeed (s .low) &
 -- "DYYY0yyy read as a binary byte": its 0 is bit 3; "contacts, closed = 1": three bits
 unfoldable pub wiringInRange : Wiring → Bool
 wiringInRange w = leb (w .setls) 255 && not (isSet 3 (w .setls)) && leb (w .contacts) 7
+
+-- 02 §2: "Record byte 44 says so (0 unknown, with contacts 0; 1 read)"
+unfoldable pub contactsRight : Wiring → Bool
+contactsRight w = cond (unread w) (eqb (w .contacts) 0) (eqb (w .read) 1)
 
 -- "SETMT digits A (0, 1), B (0, 1), C (0), D (0..2)"
 unfoldable pub setupInRange : Setup → Bool
@@ -52,7 +56,7 @@ settingsInRange m =
 
 -- "every field is in its range"
 unfoldable pub inRange : Motor → Bool
-inRange m = settingsInRange m && endFlagsInRange (m .ended) && driveInRange (m .drive)
+inRange m = settingsInRange m && endFlagsInRange (m .ended) && contactsRight (m .wiring) && driveInRange (m .drive)
 
 -- "a stopped record has zeros in 33..43"
 unfoldable pub atRest : Drive → Bool
@@ -66,10 +70,10 @@ aimRight m =
     (eqb (m .drive .target) origin)
 
 -- "a driving record has end flags 0, A = 1, at least one pulse of room (below), no active enabled switch in its direction,
--- and" the aim above; its speed in force is a speed
+-- and" the aim above; its speed in force is a speed. 02 §2: "a driving record has 1", in byte 44
 unfoldable pub underWay : Motor → Bool
 underWay m =
-    eqb (m .ended) 0 && eqb (m .setup .a) 1 && isSpeed (m .drive .speed)
+    eqb (m .ended) 0 && eqb (m .setup .a) 1 && eqb (m .wiring .read) 1 && isSpeed (m .drive .speed)
     && (leb 1 (room (m .drive .going) m) && not (blocked (m .drive .going) m) && aimRight m)
 
 -- "0 stopped": a motor is busy when it is not stopped

@@ -27,6 +27,10 @@ normallyClosed s w = isSet s (w .setls)
 abbrev pub closed : ℕ → Wiring → Bool
 closed s w = isSet s (w .contacts)
 
+-- 02 §2: "Contacts must be unknown until the channel's first accepted reading"; "0 unknown"
+abbrev pub unread : Wiring → Bool
+unread w = eqb (w .read) 0
+
 -- "A switch is *active* when its contact is closed and N.O., or open and N.C."
 unfoldable pub active : ℕ → Wiring → Bool
 active s w = (closed s w && not (normallyClosed s w)) || (not (closed s w) && normallyClosed s w)

@@ -28,8 +28,8 @@ ghost use Rattle.digits.specs.Bytes.{part, allZero};
 ghost use Rattle.digits.specs.Words.{word};
 ghost use Rattle.digits.specs.Places.{origin, isPosition, ahead};
 ghost use Rattle.record.specs.Record.{motorOf, restZero};
-ghost use Rattle.motor.specs.Switches.{switchOf, active, blocked, edge, room};
-ghost use Rattle.motor.specs.Sound.{isSpeed, limitsInRange, wiringInRange, setupInRange, settingsInRange};
+ghost use Rattle.motor.specs.Switches.{switchOf, unread, active, blocked, edge, room};
+ghost use Rattle.motor.specs.Sound.{isSpeed, limitsInRange, wiringInRange, contactsRight, setupInRange, settingsInRange};
 ghost use Rattle.motor.specs.Sound.{endFlagsInRange, driveInRange, atRest, underWay};
 ghost use Rattle.motor.specs.Sound.{busy, moving, soundMotor, soundRecord};
 
@@ -38,6 +38,13 @@ fn switch_of(going: u8) -> u8
     ensures { λ r. ⌜ (r ≡ switchOf going) × (r ≤ 1) ⌝ }
 {
     if going == CW { 0 } else { 1 }
+}
+
+// Whether no reading has told the contacts yet.
+pub fn is_unread(w: Wiring) -> bool
+    ensures { λ r. ⌜ r ≡ unread w ⌝ }
+{
+    w.read == 0
 }
 
 // Whether a switch is active, enabled or not: closed and N.O., or open and N.C.
@@ -156,7 +163,7 @@ fn bytes_in_range(b: &[u8], m: Motor) -> bool
 }
 
 // Whether the position, the settings and the end flags are in their ranges, bytes 0 to 31.
-fn settings_sound(b: &[u8]) -> bool
+fn settings_in_range(b: &[u8]) -> bool
     requires { ⌜ length (now b) ≡ 64 ⌝ }
     ensures { λ r. ⌜ r ≡ (settingsInRange (motorOf (now (b .entry))) && endFlagsInRange (motorOf (now (b .entry)) .ended)) ⌝ }
 {
@@ -168,6 +175,32 @@ fn settings_sound(b: &[u8]) -> bool
         } else {
             false
         }
+    } else {
+        false
+    }
+}
+
+// Whether the contacts are read, as most are, or unknown and 0.
+fn contacts_right(w: Wiring) -> bool
+    ensures { λ r. ⌜ r ≡ contactsRight w ⌝ }
+{
+    if w.read == 1 {
+        true
+    } else if is_unread(w) {
+        w.contacts == 0
+    } else {
+        false
+    }
+}
+
+// Whether all of a motor but its drive is sound: what stands in bytes 0 to 31, and the contacts.
+fn settings_sound(b: &[u8]) -> bool
+    requires { ⌜ length (now b) ≡ 64 ⌝ }
+    ensures { λ r. ⌜ r ≡ (settingsInRange (motorOf (now (b .entry))) && endFlagsInRange (motorOf (now (b .entry)) .ended) && contactsRight (motorOf (now (b .entry)) .wiring)) ⌝ }
+{
+    let m = read_motor(b);
+    if contacts_right(m.wiring) {
+        settings_in_range(b)
     } else {
         false
     }
@@ -222,7 +255,7 @@ fn under_way(m: Motor) -> bool
     ensures { λ r. ⌜ r ≡ underWay m ⌝ }
 {
     let going = m.drive.going;
-    if (m.ended == 0) & (m.setup.a == 1) & is_speed(m.drive.speed) {
+    if (m.ended == 0) & (m.setup.a == 1) & (m.wiring.read == 1) & is_speed(m.drive.speed) {
         if going == CW {
             is_free(CW, m)
         } else {
@@ -275,12 +308,12 @@ fn drive_zero(b: &[u8]) -> bool
     }
 }
 
-// Whether the bytes that no topic has, 44 to 63, are zero.
+// Whether the bytes that no topic has, 45 to 63, are zero: those of byte 44's word are where the word is a byte.
 fn rest_zero(b: &[u8]) -> bool
     requires { ⌜ length (now b) ≡ 64 ⌝ }
     ensures { λ r. ⌜ r ≡ restZero (now (b .entry)) ⌝ }
 {
-    if long_at(b, 44) == 0 {
+    if long_at(b, 44) <= 255 {
         if wide_at(b, 48) == 0 {
             wide_at(b, 56) == 0
         } else {
@@ -291,7 +324,7 @@ fn rest_zero(b: &[u8]) -> bool
     }
 }
 
-// Whether 64 bytes hold a sound motor. Most motors stand, and so have no drive; then only their settings are judged.
+// Whether 64 bytes hold a sound motor. Most motors stand, and so have no drive; then nothing of one is judged.
 fn motor_sound(b: &[u8]) -> bool
     requires { ⌜ length (now b) ≡ 64 ⌝ }
     ensures { λ r. ⌜ r ≡ soundMotor (motorOf (now (b .entry))) ⌝ }

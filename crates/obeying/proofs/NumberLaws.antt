@@ -6,12 +6,12 @@ use Prim.Native.Nat.{ℕ, _%_}
 use native.Mathlib.Omega.{arith}
 use lib.Dec.{eqb}
 use Rattle.record.specs.declared.Motor.{Motor}
-use Rattle.motor.specs.Switches.{blocked, room}
+use Rattle.motor.specs.Switches.{unread, blocked, room}
 use Rattle.motor.specs.Sound.{busy}
 use Rattle.drive.specs.declared.Course.{Course}
 use Rattle.drive.specs.declared.Course.the-variants.{Stay, Beyond, To, Along}
 use Rattle.drive.specs.declared.Verdict.{Verdict}
-use Rattle.drive.specs.declared.Verdict.the-variants.{Done, NoForm, Busy, OutOfRange, LocalMode, Disabled, SwitchAhead, NoRoom, NotDriving}
+use Rattle.drive.specs.declared.Verdict.the-variants.{Done, NoForm, Busy, OutOfRange, LocalMode, Disabled, Unread, SwitchAhead, NoRoom, NotDriving}
 use Rattle.drive.specs.Numbers.{numberOf, isRefusal}
 use Rattle.drive.proofs.NumberLaws.{numbered}
 use Rattle.drive.specs.Drives.{hindrance, towards, judgeStart}
@@ -52,8 +52,9 @@ hindrance-judged : (m : Motor) (going : ℕ) → judged (hindrance m going) ≡ 
 unfolding hindrance numberOf
 hindrance-judged m going =
     either (eqb (m .setup .a) 0) Disabled _ refl
+    (either (unread (m .wiring)) Unread _ refl
     (either (blocked going m) SwitchAhead _ refl
-    (either (eqb (room going m) 0) NoRoom Done refl refl))
+    (either (eqb (room going m) 0) NoRoom Done refl refl)))
 
 start-judged : (m : Motor) (c : Course) → judged (judgeStart m c) ≡ true
 unfolding judgeStart numberOf

@@ -4,7 +4,7 @@ use mathlib.Core.List.{[], _∷_, map}
 use mathlib.Core.Bool.{true, false}
 use Prim.Native.Nat.{ℕ, _+_, _-_}
 use Rattle.digits.specs.Places.{origin, cw, ccw}
-use Rattle.record.specs.Record.{freshMotor, withPlace}
+use Rattle.record.specs.Record.{freshMotor, withPlace, withWiring}
 use Rattle.drive.specs.declared.Course.the-variants.{Stay, Beyond, To, Along}
 use Rattle.line.specs.declared.Written.{Written}
 use Rattle.line.specs.declared.Four.{Four}
@@ -57,7 +57,7 @@ courses :
 unfolding computing-orders plus less
 courses = refl
 
--- Each setting changes its own field.
+-- Each setting changes its own field; SETLS leaves the contacts, and whether they are read.
 settings :
     (withSetting freshMotor (Preset (less 7)) .place ≡ origin - 7) × (withSetting freshMotor (SetCwLimit (plus 9)) .limits ≡ record { cw = origin + 9; ccw = origin - 1000000 })
     × (withSetting freshMotor (SetCcwLimit (less 9)) .limits ≡ record { cw = origin + 1000000; ccw = origin - 9 })
@@ -65,7 +65,9 @@ settings :
     × (map (λ k. withSetting freshMotor (SetSpeed k 7) .speeds) (0 ∷ 1 ∷ 2 ∷ [])
     ≡ record { high = 1000; middle = 800; low = 7; selected = 1 } ∷ record { high = 1000; middle = 7; low = 50; selected = 1 }
     ∷ record { high = 7; middle = 800; low = 50; selected = 1 } ∷ [])
-    × (withSetting freshMotor (SetSwitches (four 1 1 0 1) (four 0 1 0 1)) .wiring ≡ record { setls = 0xd5; contacts = 0 })
+    × (map (λ w. withSetting (withWiring freshMotor w) (SetSwitches (four 1 1 0 1) (four 0 1 0 1)) .wiring)
+    (record { setls = 0; contacts = 0; read = 0 } ∷ record { setls = 0; contacts = 6; read = 1 } ∷ [])
+    ≡ record { setls = 0xd5; contacts = 0; read = 0 } ∷ record { setls = 0xd5; contacts = 6; read = 1 } ∷ [])
     × (withSetting freshMotor (SetMotor (four 1 0 0 2)) .setup ≡ record { a = 1; b = 0; c = 0; d = 2 })
 unfolding computing-orders plus less four
 settings = (refl, refl, refl, refl, refl, refl, refl)

@@ -58,5 +58,5 @@ withSetting m (SetCcwLimit w) = withLimits m (record { cw = m .limits .cw; ccw =
 withSetting m (Select k) = withSpeeds m (selecting (m .speeds) k)
 withSetting m (SetSpeed k v) = withSpeeds m (withSpeed (m .speeds) k v)
 withSetting m (SetSwitches q r) =
-    withWiring m (record { setls = 16 * binary q + binary r; contacts = m .wiring .contacts })
+    withWiring m (record { setls = 16 * binary q + binary r; contacts = m .wiring .contacts; read = m .wiring .read })
 withSetting m (SetMotor q) = withSetup m (setupWritten q)

@@ -111,9 +111,9 @@ fn binary_of(q: Four) -> u8
     8 * q.a + 4 * q.b + 2 * q.c + q.d
 }
 
-// The motor with other SETLS digits; the contacts stay.
+// The motor with other SETLS digits; the contacts stay, known or not.
 fn with_switches(m: Motor, setls: u8) -> Motor
-    ensures { λ r. ⌜ r ≡ withWiring m (record { setls = setls; contacts = m .wiring .contacts }) ⌝ }
+    ensures { λ r. ⌜ r ≡ withWiring m (record { setls = setls; contacts = m .wiring .contacts; read = m .wiring .read }) ⌝ }
 {
     let mut n = m;
     let mut w = m.wiring;

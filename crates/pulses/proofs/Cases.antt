@@ -7,7 +7,7 @@ use Rattle.digits.specs.Places.{origin, cw, ccw}
 use Rattle.record.specs.declared.Motor.{Motor}
 use Rattle.record.specs.Record.{recordOf, freshMotor, withLimits, withSpeeds, withWiring}
 use Rattle.drive.specs.declared.Course.the-variants.{To, Along}
-use Rattle.drive.specs.Drives.{started, stopped, speedChanged, lsend}
+use Rattle.drive.specs.Drives.{started, stopped, speedChanged, contacted, lsend}
 use Rattle.pulses.specs.Ticks.{tickMotor, tickCount, ticks, roundedUp}
 use Rattle.pulses.specs.Computing.{computing-pulses}
 
@@ -16,35 +16,38 @@ pulses : ℕ → Motor → List ℕ
 pulses zero m = []
 pulses (suc k) m = tickMotor m .pulses ∷ pulses k (tickMotor m .motor)
 
--- a fresh motor with MSPD v, and with the CW limit at position n and D = 1
+-- a fresh motor whose contacts were read, all open; one with MSPD v, and one with the CW limit at position n and D = 1 besides
+known : Motor
+known = contacted freshMotor 0
+
 atSpeed : ℕ → Motor
-atSpeed v = withSpeeds freshMotor (record { high = 1000; middle = v; low = 50; selected = 1 })
+atSpeed v = withSpeeds known (record { high = 1000; middle = v; low = 50; selected = 1 })
 
 limited : ℕ → ℕ → Motor
 limited v n =
-    withLimits (withWiring (atSpeed v) (record { setls = 0b11110000; contacts = 0 }))
+    withLimits (withWiring (atSpeed v) (record { setls = 0b11110000; contacts = 0; read = 1 }))
     (record { cw = origin + n; ccw = origin - 1000000 })
 
 -- A pulse goes out only when its full time has passed: at 800 pps "five ticks give 0, 1, 1, 1, 1", CW and CCW alike.
 fraction-carried :
-    (pulses 5 (started freshMotor (Along cw)) ≡ 0 ∷ 1 ∷ 1 ∷ 1 ∷ 1 ∷ [])
-    × (pulses 5 (started freshMotor (Along ccw)) ≡ 0 ∷ 1 ∷ 1 ∷ 1 ∷ 1 ∷ [])
-    × (ticks 5 (started freshMotor (Along ccw)) .place ≡ origin - 4)
-unfolding computing-pulses pulses
+    (pulses 5 (started known (Along cw)) ≡ 0 ∷ 1 ∷ 1 ∷ 1 ∷ 1 ∷ [])
+    × (pulses 5 (started known (Along ccw)) ≡ 0 ∷ 1 ∷ 1 ∷ 1 ∷ 1 ∷ [])
+    × (ticks 5 (started known (Along ccw)) .place ≡ origin - 4)
+unfolding computing-pulses pulses known
 fraction-carried = (refl, refl, refl)
 
 -- A stop drops the fraction: it zeroes bytes 32 to 43, and the next drive's first tick gives none.
 fraction-dropped :
-    (part (recordOf (stopped 0x40 (ticks 1 (started freshMotor (Along cw))))) 31 13 ≡ 0x40 ∷ 0 ∷ 0 ∷ 0 ∷ 0 ∷ 0 ∷ 0 ∷ 0 ∷ 0 ∷ 0 ∷ 0 ∷ 0 ∷ 0 ∷ [])
-    × (pulses 2 (started (stopped 0x40 (ticks 1 (started freshMotor (Along cw)))) (Along cw)) ≡ 0 ∷ 1 ∷ [])
-unfolding computing-pulses pulses
+    (part (recordOf (stopped 0x40 (ticks 1 (started known (Along cw))))) 31 13 ≡ 0x40 ∷ 0 ∷ 0 ∷ 0 ∷ 0 ∷ 0 ∷ 0 ∷ 0 ∷ 0 ∷ 0 ∷ 0 ∷ 0 ∷ 0 ∷ [])
+    × (pulses 2 (started (stopped 0x40 (ticks 1 (started known (Along cw)))) (Along cw)) ≡ 0 ∷ 1 ∷ [])
+unfolding computing-pulses pulses known
 fraction-dropped = (refl, refl)
 
 -- "SPC replaces the speed in force and keeps the fraction": after two ticks at 800 it is 600, and 400 more make one pulse.
 speed-change :
-    (pulses 1 (speedChanged (ticks 2 (started freshMotor (Along cw))) 400) ≡ 1 ∷ [])
-    × (ticks 1 (speedChanged (ticks 2 (started freshMotor (Along cw))) 400) .drive .fraction ≡ 0)
-unfolding computing-pulses pulses
+    (pulses 1 (speedChanged (ticks 2 (started known (Along cw))) 400) ≡ 1 ∷ [])
+    × (ticks 1 (speedChanged (ticks 2 (started known (Along cw))) 400) .drive .fraction ≡ 0)
+unfolding computing-pulses pulses known
 speed-change = (refl, refl)
 
 -- 5,000 pulses can fall in one tick: a target, a digital limit, and the nearer of the two end it there. The target counts
@@ -57,14 +60,14 @@ capped :
     × (ticks 1 (started (limited 5000000 3) (To (origin + 3))) .ended ≡ 0)
     × (ticks 1 (started (limited 5000000 3) (Along cw)) .ended ≡ lsend)
     × (ticks 1 (started (limited 5000000 3) (To (origin + 100))) .place ≡ origin + 3)
-unfolding computing-pulses pulses atSpeed limited
+unfolding computing-pulses pulses known atSpeed limited
 capped = (refl, refl, refl, refl, refl, refl, refl)
 
 -- "CW positive, 0 for a stopped motor": the second tick's count either way, and that of a motor that stands.
 counted :
-    (tickCount (ticks 1 (started freshMotor (Along cw))) ≡ 1) × (tickCount (ticks 1 (started freshMotor (Along ccw))) ≡ 0xffffffff)
+    (tickCount (ticks 1 (started known (Along cw))) ≡ 1) × (tickCount (ticks 1 (started known (Along ccw))) ≡ 0xffffffff)
     × (tickCount freshMotor ≡ 0)
-unfolding computing-pulses
+unfolding computing-pulses known
 counted = (refl, refl, refl)
 
 -- "rounded up": 3 pulses at 800 pps take 4 ticks, 4 take 5, and one pulse at the highest speed takes one.

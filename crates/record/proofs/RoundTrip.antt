@@ -6,7 +6,7 @@ use mathlib.Core.Bool.{true}
 use Prim.Native.Nat.{ℕ, _+_, _≤_, _<_}
 use native.Mathlib.Omega.{arith}
 use lib.ListN.{length, getD, replicate}
-use Rattle.digits.specs.Bytes.{AllBytes, part, joined}
+use Rattle.digits.specs.Bytes.{AllBytes, part, joined, allZero}
 use Rattle.digits.specs.Words.{word, wordBytes}
 use Rattle.digits.specs.Places.{wordOf}
 use Rattle.digits.proofs.PartLaws.{append-bytes, cons-bytes, none-bytes, zeros-bytes, part-length, part-add, part-bytes, part-one, zero-bytes, part-whole, cut-joined}
@@ -52,16 +52,17 @@ pub standing-zero : (m : Motor) → m .drive ≡ standing → part (recordOf m) 
 unfolding joined wordBytes wordOf
 standing-zero m e = rw (drive-part m, e)
 
--- Bytes 44 to 63 are the rest.
-pub rest-part : (m : Motor) → part (recordOf m) 44 20 ≡ restBytes m
-unfolding recordOf settingBytes joined part wordBytes
-rest-part m = refl
+-- The bytes that no topic has are zero.
+pub rest-clear : (m : Motor) → restZero (recordOf m) ≡ true
+unfolding recordOf settingBytes joined part wordBytes allZero
+rest-clear m = refl
 
 -- The bytes of a record are bytes, where the one-byte fields of its motor are.
 pub record FitsBytes (m : Motor) : Type 0 where
   pub selected : m .speeds .selected < 256
   pub setls : m .wiring .setls < 256
   pub contacts : m .wiring .contacts < 256
+  pub read : m .wiring .read < 256
   pub a : m .setup .a < 256
   pub b : m .setup .b < 256
   pub c : m .setup .c < 256
@@ -89,9 +90,13 @@ setting-bytes m f =
     (append-bytes (limitBytes (m .limits)) _ (limit-bytes (m .limits))
     (append-bytes (speedBytes (m .speeds)) _ (speed-bytes (m .speeds) (f .selected)) (search (none-bytes, cons-bytes) depth 8)))
 
+rest-bytes : (m : Motor) → m .wiring .read < 256 → AllBytes (restBytes m)
+unfolding joined
+rest-bytes m h = search (zeros-bytes, none-bytes, cons-bytes, append-bytes) depth 8
+
 pub record-bytes : (m : Motor) → FitsBytes m → AllBytes (recordOf m)
 unfolding recordOf joined
-record-bytes m f = search (setting-bytes, drive-bytes, zeros-bytes, none-bytes, cons-bytes, append-bytes) depth 12
+record-bytes m f = search (setting-bytes, drive-bytes, rest-bytes, none-bytes, cons-bytes, append-bytes) depth 12
 
 -- Bytes of a record, each below 256, as the bytes of a buffer are.
 module _ (b : List ℕ) (whole : length b ≡ 64) (bytes : AllBytes b) where
@@ -134,7 +139,10 @@ module _ (b : List ℕ) (whole : length b ≡ 64) (bytes : AllBytes b) where
       (cons-back 32 11 (omega arith))
 
   rest-back : restZero b ≡ true → restBytes (motorOf b) ≡ part b 44 20
-  rest-back z = rw (zero-bytes (part b 44 20) z, part-length b 44 20 (omega arith))
+  unfolding joined motorOf
+  rest-back z =
+      let zeros : replicate 19 0 ≡ part b 45 19 = rw (zero-bytes (part b 45 19) z, part-length b 45 19 (omega arith)) in
+      rw (zeros) (cons-back 44 19 (omega arith))
 
   -- Read and written back is the same bytes, where those that no topic has are zero.
   pub read-written : restZero b ≡ true → recordOf (motorOf b) ≡ b

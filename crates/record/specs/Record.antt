@@ -37,9 +37,10 @@ limitsOf b = record { cw = placeAt b 4; ccw = placeAt b 8 }
 abbrev pub speedsOf : List ℕ → Speeds
 speedsOf b = record { high = longAt b 12; middle = longAt b 16; low = longAt b 20; selected = byteAt b 24 }
 
--- 25 "the SETLS digits DYYY0yyy read as a binary byte"; 26 "contacts, closed = 1: bit 0 CW, bit 1 CCW, bit 2 HP"
+-- 25 "the SETLS digits DYYY0yyy read as a binary byte"; 26 "contacts, closed = 1: bit 0 CW, bit 1 CCW, bit 2 HP". 02 §2:
+-- "Contacts must be unknown until the channel's first accepted reading. Record byte 44 says so (0 unknown, ..; 1 read)"
 abbrev pub wiringOf : List ℕ → Wiring
-wiringOf b = record { setls = byteAt b 25; contacts = byteAt b 26 }
+wiringOf b = record { setls = byteAt b 25; contacts = byteAt b 26; read = byteAt b 44 }
 
 -- 27, 28, 29, 30 "SETMT digits A (0, 1), B (0, 1), C (0), D (0..2)"
 abbrev pub setupOf : List ℕ → Setup
@@ -84,7 +85,7 @@ limitBytes l = joined (placeBytes (l .cw) ∷ placeBytes (l .ccw) ∷ [])
 abbrev pub speedBytes : Speeds → List ℕ
 speedBytes s = joined (wordBytes 4 (s .high) ∷ wordBytes 4 (s .middle) ∷ wordBytes 4 (s .low) ∷ (s .selected ∷ []) ∷ [])
 
--- 25, 26 as they are written
+-- 25, 26 as they are written; 44 is written after the drive
 abbrev pub wiringBytes : Wiring → List ℕ
 wiringBytes w = w .setls ∷ w .contacts ∷ []
 
@@ -103,13 +104,13 @@ abbrev pub driveBytes : Drive → List ℕ
 driveBytes d =
     joined ((goingByte d ∷ d .kind ∷ []) ∷ wordBytes 2 (d .fraction) ∷ wordBytes 4 (d .speed) ∷ placeBytes (d .target) ∷ [])
 
--- "44-63 | zero": what is written after the drive
+-- what is written after the drive: 44, whether the contacts are read, and zeros where 01 has "44-63 | zero" still
 abbrev pub restBytes : Motor → List ℕ
-restBytes m = replicate 20 0
+restBytes m = joined ((m .wiring .read ∷ []) ∷ replicate 19 0 ∷ [])
 
 -- "every byte given as zero is zero": those of a record that no topic has
 abbrev pub restZero : List ℕ → Bool
-restZero b = allZero (part b 44 20)
+restZero b = allZero (part b 45 19)
 
 -- the record of a motor: the topics in the order of their bytes
 unfoldable pub recordOf : Motor → List ℕ
@@ -127,7 +128,7 @@ withLimits m l = record { place = m .place; limits = l; speeds = m .speeds; wiri
 abbrev pub withSpeeds : Motor → Speeds → Motor
 withSpeeds m s = record { place = m .place; limits = m .limits; speeds = s; wiring = m .wiring; setup = m .setup; ended = m .ended; drive = m .drive }
 
--- the motor with another SETLS byte or other contacts
+-- the motor with another SETLS byte, or other contacts, known or not
 abbrev pub withWiring : Motor → Wiring → Motor
 withWiring m w = record { place = m .place; limits = m .limits; speeds = m .speeds; wiring = w; setup = m .setup; ended = m .ended; drive = m .drive }
 
@@ -153,14 +154,14 @@ abbrev pub standing : Drive
 standing = record { going = 0; kind = 0; fraction = 0; speed = 0; target = origin }
 
 -- "Fresh: .. position 0, limits +1,000,000 and -1,000,000 (003), HSPD 1000, MSPD 800, LSPD 50, selected M, SETLS 01110000,
--- SETMT 1100, contacts all open, stopped."
+-- SETMT 1100, contacts all open, stopped." 02 §2: they are unknown
 unfoldable pub freshMotor : Motor
 freshMotor =
     record {
       place = origin;
       limits = record { cw = origin + 1000000; ccw = origin - 1000000 };
       speeds = record { high = 1000; middle = 800; low = 50; selected = 1 };
-      wiring = record { setls = 0b01110000; contacts = 0 };
+      wiring = record { setls = 0b01110000; contacts = 0; read = 0 };
       setup = record { a = 1; b = 1; c = 0; d = 0 };
       ended = 0;
       drive = standing;

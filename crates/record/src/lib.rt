@@ -35,10 +35,12 @@ pub struct Speeds {
     pub selected: u8,
 }
 
-// The SETLS digits DYYY0yyy read as a binary byte, and the contacts, closed = 1: bit 0 CW, bit 1 CCW, bit 2 HP.
+// The SETLS digits DYYY0yyy read as a binary byte, and the contacts, closed = 1: bit 0 CW, bit 1 CCW, bit 2 HP; read is 0
+// while the contacts are unknown, and 1 once a reading has told them.
 pub struct Wiring {
     pub setls: u8,
     pub contacts: u8,
+    pub read: u8,
 }
 
 // The SETMT digits A, B, C and D.
@@ -121,6 +123,7 @@ fn read_wiring(b: &[u8]) -> Wiring
     Wiring {
         setls: byte_at(b, 25),
         contacts: byte_at(b, 26),
+        read: byte_at(b, 44),
     }
 }
 
@@ -180,7 +183,7 @@ fn put_place(b: &mut [u8], at: usize, p: u32)
     put_long(b, at, word_of(p))
 }
 
-// The topics again, each into its own bytes; every other byte stays as it is.
+// The topics again, each into its own bytes; every other byte stays as it is. Byte 44 of the wiring is written with the rest.
 fn put_limits(b: &mut [u8], l: Limits)
     requires { ⌜ length (now b) ≡ 64 ⌝ }
     ensures { λ r. ⌜ now (b .exit) ≡ put (now (b .entry)) 4 (limitBytes l) ⌝ }
@@ -244,12 +247,12 @@ fn put_drive(b: &mut [u8], d: Drive)
     put_place(b, 40, d.target);
 }
 
-// Writes what comes after the drive, bytes 44 to 63: zeros, of every motor.
+// Writes what comes after the drive, bytes 44 to 63: whether the contacts are read, one word with the zeros beside it, and zeros.
 fn put_rest(b: &mut [u8], m: Motor)
     requires { ⌜ length (now b) ≡ 64 ⌝ }
     ensures { λ r. ⌜ now (b .exit) ≡ put (now (b .entry)) 44 (restBytes m) ⌝ }
 {
-    put_long(b, 44, 0);
+    put_long(b, 44, m.wiring.read as u32);
     put_long(b, 48, 0);
     put_long(b, 52, 0);
     put_long(b, 56, 0);

@@ -1,15 +1,16 @@
 -- Replies computed by the definitions. Each list is one statement, and its proof is the computation.
 use mathlib.Core.Path.{_≡_, refl}
-use mathlib.Core.List.{List, [], _∷_, map}
+use mathlib.Core.List.{List, [], _∷_, _++_, map}
 use Prim.Native.Nat.{ℕ, _+_, _-_}
 use lib.ListN.{replicate}
 use Rattle.text.specs.Text.{bytes}
 use Rattle.digits.specs.Places.{origin, lowest, highest, cw, ccw}
+use Rattle.record.specs.declared.Wiring.{Wiring}
 use Rattle.record.specs.declared.Motor.{Motor}
 use Rattle.record.specs.Record.{freshMotor, standing, withPlace, withSpeeds, withWiring, withSetup, withDrive}
 use Rattle.drive.specs.declared.Course.the-variants.{To, Along}
-use Rattle.drive.specs.declared.Verdict.the-variants.{Done, NoForm, Busy, OutOfRange, LocalMode, Disabled, SwitchAhead, NoRoom, NotDriving, WrongSize, NotSound}
-use Rattle.drive.specs.Drives.{started, stopped}
+use Rattle.drive.specs.declared.Verdict.the-variants.{Done, NoForm, Busy, OutOfRange, LocalMode, Disabled, Unread, SwitchAhead, NoRoom, NotDriving, WrongSize, NotSound}
+use Rattle.drive.specs.Drives.{started, stopped, contacted}
 use Rattle.table.specs.declared.head.Head.{Head}
 use Rattle.line.specs.declared.Question.the-variants.{AskPosition, AskCwLimit, AskCcwLimit, AskSelected, AskSpeed, AskSwitches, AskMotor, AskStatus}
 use Rattle.line.specs.declared.HeadQuestion.the-variants.{AskAllReply, AskFlags, AskError}
@@ -20,7 +21,7 @@ use Rattle.replies.specs.Computing.{computing-replies}
 texts :
     (map (echo 1) (Done ∷ NoForm ∷ Busy ∷ OutOfRange ∷ [])
     ≡ bytes "OK" ∷ bytes "COMMAND ERROR" ∷ bytes "MCC06 BUSY ERROR" ∷ bytes "PARAMETER ERROR" ∷ [])
-    × (map (echo 1) (LocalMode ∷ Disabled ∷ SwitchAhead ∷ NoRoom ∷ NotDriving ∷ []) ≡ replicate 5 (bytes "NG"))
+    × (map (echo 1) (LocalMode ∷ Disabled ∷ Unread ∷ SwitchAhead ∷ NoRoom ∷ NotDriving ∷ []) ≡ replicate 6 (bytes "NG"))
     × (map (echo 1) (WrongSize ∷ NotSound ∷ []) ≡ [] ∷ [] ∷ [])
 unfolding computing-replies
 texts = (refl, refl, refl)
@@ -86,7 +87,7 @@ other selected =
     withSetup
     (withWiring
     (withSpeeds freshMotor (record { high = 5000000; middle = 123456; low = 1; selected = selected }))
-    (record { setls = 0b11110101; contacts = 0 }))
+    (record { setls = 0b11110101; contacts = 0; read = 0 }))
     (record { a = 0; b = 1; c = 0; d = 2 })
 
 other-settings :
@@ -96,25 +97,29 @@ other-settings :
 unfolding computing-replies other
 other-settings = (refl, refl)
 
+-- a fresh motor whose contacts were read, all open
+known : Motor
+known = contacted freshMotor 0
+
 -- "`STSx?`": the cases of the document, then local mode, CCW, the channel in hex and end flags
 statuses :
-    (questionText 1 0 (withPlace (started freshMotor (To (origin + 3))) (origin + 2)) AskStatus ≡ bytes "R0P003+0000002")
+    (questionText 1 0 (withPlace (started known (To (origin + 3))) (origin + 2)) AskStatus ≡ bytes "R0P003+0000002")
     × (questionText 1 0 (withDrive (withPlace freshMotor (origin + 3)) 0x20 standing) AskStatus ≡ bytes "R0S020+0000003")
     × (questionText 1 0 (withPlace freshMotor (origin + 3)) AskStatus ≡ bytes "R0S000+0000003")
     × (questionText 0 10 freshMotor AskStatus ≡ bytes "LAS000+0000000")
-    × (questionText 1 15 (withPlace (started freshMotor (Along ccw)) (origin - 4)) AskStatus ≡ bytes "RFN003-0000004")
-    × (questionText 1 9 (stopped 0x80 (started freshMotor (Along cw))) AskStatus ≡ bytes "R9S080+0000000")
-    × (questionText 1 9 (stopped 0x40 (started freshMotor (Along cw))) AskStatus ≡ bytes "R9S040+0000000")
+    × (questionText 1 15 (withPlace (started known (Along ccw)) (origin - 4)) AskStatus ≡ bytes "RFN003-0000004")
+    × (questionText 1 9 (stopped 0x80 (started known (Along cw))) AskStatus ≡ bytes "R9S080+0000000")
+    × (questionText 1 9 (stopped 0x40 (started known (Along cw))) AskStatus ≡ bytes "R9S040+0000000")
     × (questionText 1 0 (withPlace freshMotor lowest) AskStatus ≡ bytes "R0S000-2147483647")
-unfolding computing-replies
+unfolding computing-replies known
 statuses = (refl, refl, refl, refl, refl, refl, refl, refl)
 
--- what `STSx?` answers with a SETLS byte, contacts and the digit B
+-- what `STSx?` answers of a stopped motor with some wiring and the digit B, and with contacts that are read
+showing : Wiring → ℕ → List ℕ
+showing w b = questionText 1 0 (withSetup (withWiring freshMotor w) (record { a = 1; b = b; c = 0; d = 0 })) AskStatus
+
 withV : ℕ → ℕ → ℕ → List ℕ
-withV setls contacts b =
-    questionText 1 0
-    (withSetup (withWiring freshMotor (record { setls = setls; contacts = contacts })) (record { a = 1; b = b; c = 0; d = 0 }))
-    AskStatus
+withV setls contacts b = showing (record { setls = setls; contacts = contacts; read = 1 }) b
 
 -- "V": a closed N.O. contact and an open N.C. one count, enabled or not; bit 3 is B = 0 when stopped, and only then.
 switches-shown :
@@ -124,6 +129,13 @@ switches-shown :
     × (withV 0b01110111 0b111 1 ≡ bytes "R0S000+0000000")
     × (withV 0b01110000 0b000 0 ≡ bytes "R0S800+0000000")
     × (withV 0b00000101 0b010 0 ≡ bytes "R0SF00+0000000")
-    × (questionText 1 0 (started (withSetup freshMotor (record { a = 1; b = 0; c = 0; d = 0 })) (Along cw)) AskStatus ≡ bytes "R0P003+0000000")
-unfolding computing-replies withV
+    × (questionText 1 0 (started (withSetup known (record { a = 1; b = 0; c = 0; d = 0 })) (Along cw)) AskStatus ≡ bytes "R0P003+0000000")
+unfolding computing-replies withV showing known
 switches-shown = (refl, refl, refl, refl, refl, refl, refl)
+
+-- 02 §2: "V shows its switch bits as 0 while unknown": N.O. or N.C., enabled or not; bit 3 is shown as before.
+unknown-shown :
+    map (λ setls. showing (record { setls = setls; contacts = 0; read = 0 }) 1) (0b01110000 ∷ 0b01110111 ∷ 0b00000111 ∷ []) ++ (showing (record { setls = 0b01110111; contacts = 0; read = 0 }) 0 ∷ [])
+    ≡ bytes "R0S000+0000000" ∷ bytes "R0S000+0000000" ∷ bytes "R0S000+0000000" ∷ bytes "R0S800+0000000" ∷ []
+unfolding computing-replies showing
+unknown-shown = refl

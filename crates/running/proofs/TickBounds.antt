@@ -7,10 +7,11 @@ use Prim.Native.Nat.{ℕ, _<_}
 use native.Mathlib.Omega.{arith}
 use lib.Dec.{eqb}
 use lib.ListN.{length, replicate}
-use Rattle.digits.specs.Bytes.{every, part, allZero}
+use Rattle.digits.specs.Bytes.{every}
 use Rattle.digits.specs.Places.{placeOf}
 use Rattle.record.specs.Record.{motorOf}
-use Rattle.motor.specs.Sound.{soundMotor, soundRecord}
+use Rattle.motor.specs.Sound.{soundRecord}
+use Rattle.motor.proofs.RecordLaws.{record-motor-sound}
 use Rattle.pulses.specs.Ticks.{tickMotor, tickCount}
 use Rattle.drive.specs.Numbers.{numberOf}
 use Rattle.drive.specs.declared.Verdict.the-variants.{Done, WrongSize, NotSound}
@@ -18,17 +19,15 @@ use Rattle.pulses.proofs.TickSound.{pulses-bound}
 use Rattle.table.specs.Layout.{tableSize, records, withMotors}
 use Rattle.table.specs.Sound.{soundHead, soundTable}
 use Rattle.obeying.specs.Taking.{accepted}
-use Rattle.urqolina.specs.Calls.{TickAfter, refusal, counts, tickCall}
+use Rattle.urqolina.specs.Calls.{TickAfter, counts, tickCall}
 use Rattle.jobs.specs.Bounds.{Near, CountsWithin, mostCount}
 use Rattle.jobs.proofs.NetLaws.{count-near, words-within, zeros-within}
 
 -- a sound record's motor gives no more than 5,000 pulses
 record-near : (r : List ℕ) → soundRecord r ≡ true → Near mostCount (placeOf (tickCount (motorOf r))) × (tickCount (motorOf r) < 4294967296)
-unfolding soundRecord tickCount
+unfolding tickCount
 record-near r e =
-    let both = and-eq-true-iff (eqb (length r) 64 && soundMotor (motorOf r)) (allZero (part r 44 20)) .0 e in
-    let sound = and-eq-true-iff (eqb (length r) 64) (soundMotor (motorOf r)) .0 (both .0) .1 in
-    count-near (motorOf r .drive .going) (tickMotor (motorOf r) .pulses) mostCount (pulses-bound (motorOf r) sound) (omega arith)
+    count-near (motorOf r .drive .going) (tickMotor (motorOf r) .pulses) mostCount (pulses-bound (motorOf r) (record-motor-sound r e)) (omega arith)
 
 sound-counts : (t : List ℕ) → soundTable t ≡ true → CountsWithin mostCount (counts t)
 unfolding soundTable

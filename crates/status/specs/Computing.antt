@@ -2,8 +2,8 @@
 -- shut. It says nothing itself.
 use Rattle.text.specs.Computing.{computing-text}
 use Rattle.motor.specs.Computing.{computing-motor}
-use Rattle.status.specs.Status.{statusV, statusHH, modeLetter, goingLetter, statusText}
+use Rattle.status.specs.Status.{switchBits, statusV, statusHH, modeLetter, goingLetter, statusText}
 
 unfoldable pub computing-status : Unit {0}
-unfolding computing-text computing-motor statusV statusHH modeLetter goingLetter statusText
+unfolding computing-text computing-motor switchBits statusV statusHH modeLetter goingLetter statusText
 computing-status = tt

@@ -6,8 +6,9 @@ use mathlib.Core.Bool.{Bool, _&&_, not, cond}
 use lib.Dec.{eqb}
 use Rattle.digits.specs.Places.{cw}
 use Rattle.text.specs.Text.{signedDecimal, hexDigit, hexByte}
+use Rattle.record.specs.declared.Wiring.{Wiring}
 use Rattle.record.specs.declared.Motor.{Motor}
-use Rattle.motor.specs.Switches.{active}
+use Rattle.motor.specs.Switches.{unread, active}
 use Rattle.motor.specs.Sound.{busy, moving}
 
 -- "positions and limits, a sign (+ for 0) and at least 7 digits"
@@ -18,11 +19,13 @@ positionText p = signedDecimal 7 p
 abbrev pub flagIf : Bool → ℕ → ℕ
 flagIf test n = cond test n 0
 
--- "V: bit 0 CW, 1 CCW, 2 HP active (enabled or not), bit 3 set when stopped with B = 0"
+-- "V: bit 0 CW, 1 CCW, 2 HP active (enabled or not)". 02 §2: "V shows its switch bits as 0 while unknown."
+unfoldable pub switchBits : Wiring → ℕ
+switchBits w = cond (unread w) 0 (flagIf (active 0 w) 1 + flagIf (active 1 w) 2 + flagIf (active 2 w) 4)
+
+-- V: these, and "bit 3 set when stopped with B = 0"
 unfoldable pub statusV : Motor → ℕ
-statusV m =
-    flagIf (active 0 (m .wiring)) 1 + flagIf (active 1 (m .wiring)) 2 + flagIf (active 2 (m .wiring)) 4
-    + flagIf (not (busy m) && eqb (m .setup .b) 0) 8
+statusV m = switchBits (m .wiring) + flagIf (not (busy m) && eqb (m .setup .b) 0) 8
 
 -- "HH: the end flags, or 03 while driving (000)"
 unfoldable pub statusHH : Motor → ℕ

@@ -4,6 +4,7 @@ use digits::places::CW;
 use motor::is_active;
 use motor::is_busy;
 use motor::is_moving;
+use motor::is_unread;
 use record::Motor;
 use record::Wiring;
 use text::decimal::write_signed;
@@ -15,7 +16,7 @@ ghost use lib.ListN.{length};
 ghost use Rattle.digits.specs.Bytes.{put};
 ghost use Rattle.text.specs.Text.{Wrote, hexDigit, hexByte};
 ghost use Rattle.motor.specs.Switches.{active};
-ghost use Rattle.status.specs.Status.{flagIf, statusV, statusHH, modeLetter, goingLetter, statusText};
+ghost use Rattle.status.specs.Status.{flagIf, switchBits, statusV, statusHH, modeLetter, goingLetter, statusText};
 
 fn flag_if(t: bool, n: u8) -> u8
     ensures { λ r. ⌜ (r ≡ flagIf t n) × (r ≤ n) ⌝ }
@@ -30,12 +31,19 @@ fn switch_flags(w: Wiring) -> u8
     flag_if(is_active(0, w), 1) + flag_if(is_active(1, w), 2) + flag_if(is_active(2, w), 4)
 }
 
+// What is shown of them: none while the contacts are unknown, though an N.C. switch would be active.
+fn switch_bits(w: Wiring) -> u8
+    ensures { λ r. ⌜ (r ≡ switchBits w) × (r ≤ 7) ⌝ }
+{
+    if is_unread(w) { 0 } else { switch_flags(w) }
+}
+
 // The digit V.
 fn status_v(m: Motor) -> u8
     ensures { λ r. ⌜ (r ≡ statusV m) × (r ≤ 15) ⌝ }
 {
     let w = m.wiring;
-    let switches = switch_flags(w);
+    let switches = switch_bits(w);
     switches + flag_if(!is_busy(m) & (m.setup.b == 0), 8)
 }
 

@@ -7,7 +7,7 @@ use lib.ListN.{length, drop, replicate}
 use Rattle.digits.specs.Bytes.{part, put}
 use Rattle.digits.specs.Places.{origin, cw}
 use Rattle.record.specs.declared.Motor.{Motor}
-use Rattle.record.specs.Record.{recordOf, freshMotor, withDrive}
+use Rattle.record.specs.Record.{recordOf, freshMotor, withWiring, withDrive}
 use Rattle.table.specs.Layout.{headOf, withHead, withMode, withReply, withErrors, recordAt, motorAt, withMotor, withMotors, freshTable}
 use Rattle.table.specs.Sound.{soundTable}
 use Rattle.table.specs.Computing.{computing-table}
@@ -19,9 +19,11 @@ fresh :
 unfolding computing-table
 fresh = (refl, refl, refl, refl, refl)
 
--- a fresh motor that scans CW at 800 pps, and a table whose channel 11 does
+-- a motor, fresh but for its contacts, which are read, that scans CW at 800 pps, and a table whose channel 11 does
 scanning : Motor
-scanning = withDrive freshMotor 0 (record { going = cw; kind = 0; fraction = 0; speed = 800; target = origin })
+scanning =
+    withDrive (withWiring freshMotor (record { setls = 0b01110000; contacts = 0; read = 1 })) 0
+    (record { going = cw; kind = 0; fraction = 0; speed = 800; target = origin })
 
 away : List ℕ
 away = withMotor freshTable 11 scanning
@@ -42,12 +44,13 @@ head :
 unfolding computing-table
 head = (refl, refl)
 
--- a table of a wrong length, one of all FFh, a head byte out of range, and a byte of any record that must be zero
+-- a table of a wrong length, one of all FFh, a head byte out of range, and a byte of any record that must be zero; that the contacts
+-- are read, byte 44 of a record, may stand in any of them
 unsound :
     (map (λ t. soundTable t) ([] ∷ drop 1 freshTable ∷ (freshTable ++ (0 ∷ [])) ∷ replicate 1088 255 ∷ replicate 1088 0 ∷ [])
     ≡ false ∷ false ∷ false ∷ false ∷ false ∷ [])
-    × (map (λ at. soundTable (put freshTable at (1 ∷ []))) (0 ∷ 1 ∷ 2 ∷ 3 ∷ 63 ∷ 108 ∷ 127 ∷ 1068 ∷ 1087 ∷ [])
-    ≡ true ∷ true ∷ true ∷ false ∷ false ∷ false ∷ false ∷ false ∷ false ∷ [])
+    × (map (λ at. soundTable (put freshTable at (1 ∷ []))) (0 ∷ 1 ∷ 2 ∷ 3 ∷ 63 ∷ 108 ∷ 109 ∷ 127 ∷ 1068 ∷ 1069 ∷ 1087 ∷ [])
+    ≡ true ∷ true ∷ true ∷ false ∷ false ∷ true ∷ false ∷ false ∷ true ∷ false ∷ false ∷ [])
     × (map (λ b. soundTable (put freshTable 0 b)) ((2 ∷ []) ∷ (1 ∷ 2 ∷ []) ∷ (1 ∷ 1 ∷ 15 ∷ []) ∷ (1 ∷ 1 ∷ 16 ∷ []) ∷ [])
     ≡ false ∷ false ∷ true ∷ false ∷ [])
 unfolding computing-table

@@ -119,7 +119,7 @@ pub fn sound_table(t: &[u8]) -> bool
     }
 }
 
-// The motor of each channel of a fresh table.
+// The motor of each channel of a fresh table: what its switches tell is unknown.
 fn fresh_motor() -> Motor
     ensures { λ r. ⌜ r ≡ freshMotor ⌝ }
 {
@@ -138,6 +138,7 @@ fn fresh_motor() -> Motor
         wiring: Wiring {
             setls: 0b01110000,
             contacts: 0,
+            read: 0,
         },
         setup: Setup {
             a: 1,

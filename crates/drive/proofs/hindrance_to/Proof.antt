@@ -11,28 +11,45 @@ returns : tie.Need-returns
 unfolding hindrance
 returns c = rw (eq-eqb _ _ (c .if1 .taken))
 
-is-blocked-requires : tie.Need-is-blocked-requires
-is-blocked-requires c κs = search needs
+is-unread-requires : tie.Need-is-unread-requires
+is-unread-requires c κs = search needs
 
 returns-2 : tie.Need-returns-2
 unfolding hindrance
-returns-2 c = rw (ne-eqb _ _ (c .before .before .if1 .left), ← c .before .is-blocked .ensures, c .if2 .taken)
+returns-2 c = rw (ne-eqb _ _ (c .before .before .if1 .left), ← c .before .is-unread .ensures, c .if2 .taken)
 
-room-of-requires : tie.Need-room-of-requires
-room-of-requires c κs = search needs
+is-blocked-requires : tie.Need-is-blocked-requires
+is-blocked-requires c κs = search needs
 
 returns-3 : tie.Need-returns-3
 unfolding hindrance
 returns-3 c =
-    let none : c .before .room-of .result ≡ 0 = omega arith in
-    rw (ne-eqb _ _ (c .before .before .before .before .if1 .left), ← c .before .before .before .is-blocked .ensures, c .before .before .if2 .left, ← c .before .room-of .ensures, eq-eqb _ _ none)
+    rw (ne-eqb _ _ (c .before .before .before .before .if1 .left), ← c .before .before .before .is-unread .ensures, c .before .before .if2 .left, ← c .before .is-blocked .ensures, c .if3 .taken)
+
+room-of-requires : tie.Need-room-of-requires
+room-of-requires c κs = search needs
 
 returns-4 : tie.Need-returns-4
 unfolding hindrance
 returns-4 c =
-    let some : c .before .room-of .result ≡ 0 → ⊥ = c .if3 .left in
-    rw (ne-eqb _ _ (c .before .before .before .before .if1 .left), ← c .before .before .before .is-blocked .ensures, c .before .before .if2 .left, ← c .before .room-of .ensures, ne-eqb _ _ some)
+    let none : c .before .room-of .result ≡ 0 = omega arith in
+    rw (ne-eqb _ _ (c .before .before .before .before .before .before .if1 .left), ← c .before .before .before .before .before .is-unread .ensures, c .before .before .before .before .if2 .left, ← c .before .before .before .is-blocked .ensures, c .before .before .if3 .left, ← c .before .room-of .ensures, eq-eqb _ _ none)
+
+returns-5 : tie.Need-returns-5
+unfolding hindrance
+returns-5 c =
+    let some : c .before .room-of .result ≡ 0 → ⊥ = c .if4 .left in
+    rw (ne-eqb _ _ (c .before .before .before .before .before .before .if1 .left), ← c .before .before .before .before .before .is-unread .ensures, c .before .before .before .before .if2 .left, ← c .before .before .before .is-blocked .ensures, c .before .before .if3 .left, ← c .before .room-of .ensures, ne-eqb _ _ some)
 
 pub hindrance-to-spec : {M : Type 1} → statement M
 hindrance-to-spec =
-    tie.close (tie.spec returns is-blocked-requires returns-2 room-of-requires returns-3 returns-4)
+    tie.close
+    (tie.spec
+    returns
+    is-unread-requires
+    returns-2
+    is-blocked-requires
+    returns-3
+    room-of-requires
+    returns-4
+    returns-5)
