@@ -23,10 +23,11 @@ const struct step tour[] = {
     /* a bare number, in a start and in a setting, of ten digits too */
     {.kind = COMMAND, .number = 0, .before = "S 0 0;REM", .line = "ABS0100"},
     {.kind = COMMAND, .number = 0, .before = "REM", .line = "FL00000000250"},
-    /* on a channel that was not read, what does not move the motor; and V, with every switch N.C. */
+    /* on a channel that was not read, what does not move the motor; and V, with every switch N.C., and with B = 0 */
     {.kind = COMMAND, .number = 0, .before = "REM", .line = "REL0+0"},
     {.kind = COMMAND, .number = 0, .before = "REM", .line = "ABS0+0"},
     {.kind = COMMAND, .number = 0, .before = "REM;SETLS001110111", .line = "STS0?"},
+    {.kind = COMMAND, .number = 0, .before = "REM;SETLS001110111;SETMT01000", .line = "STS0?"},
     /* once read it stays so: after a stop, after SETLS, in local mode */
     {.kind = COMMAND, .number = 0, .before = "S 0 0;REM;SCANP0;ESTP0", .line = "SCANN0"},
     {.kind = COMMAND, .number = 0, .before = "S 0 0;REM;SETLS000000000", .line = "SCANP0"},

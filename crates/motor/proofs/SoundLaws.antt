@@ -11,7 +11,7 @@ use Rattle.record.specs.declared.Wiring.{Wiring}
 use Rattle.record.specs.declared.Drive.{Drive}
 use Rattle.record.specs.declared.Motor.{Motor}
 use Rattle.record.specs.Record.{standing}
-use Rattle.motor.specs.Switches.{unread, blocked, room}
+use Rattle.motor.specs.Switches.{blocked, room}
 use Rattle.motor.specs.Sound.{isSpeed, limitsInRange, speedsInRange, wiringInRange, contactsRight, setupInRange, endFlagsInRange, driveInRange, settingsInRange, inRange, atRest, aimRight, underWay, busy, soundMotor}
 
 -- Of a conjunction that holds, both parts hold.
@@ -154,11 +154,13 @@ flags-bound e h = go (leb e 128) refl
 
 read-bound : (w : Wiring) → contactsRight w ≡ true → w .read ≤ 1
 unfolding contactsRight
-read-bound w = go (unread w) refl
+read-bound w h = go (leb (w .read) 1) refl
   where
-    go : (t : Bool) → unread w ≡ t → cond t (eqb (w .contacts) 0) (eqb (w .read) 1) ≡ true → w .read ≤ 1
-    go true u h = omega (arith, eqb-true (w .read) 0 u)
-    go false u h = omega (arith, eqb-true (w .read) 1 h)
+    go : (t : Bool) → leb (w .read) 1 ≡ t → w .read ≤ 1
+    go true q = leb-true (w .read) 1 q
+    go false q =
+        let above = leb-false (w .read) 1 q in
+        absurd (false≢true (rw (ne-eqb (w .read) 0 (omega arith), ne-eqb (w .read) 1 (omega arith)) at h))
 
 pub range-bounds : (m : Motor) → InRange m → Bounds m
 unfolding limitsInRange speedsInRange wiringInRange setupInRange driveInRange
