@@ -40,9 +40,9 @@ use Rattle.laws.specs.Computing.{computing-laws}
 use Rattle.laws.specs.Sequences.{Library, Call, urqolina, command, reading, tick, After, Beginning, ran}
 use Rattle.laws.specs.Deeds.{Deed, starts, stops, speeds, sets, reads, ticks, rests, deed, isTick, orderTaken}
 use Rattle.laws.specs.Ledger.{countAt, Account, Travel}
-use Rattle.laws.specs.Numbers.{Numbers, Replies, sizesRight}
+use Rattle.laws.specs.Numbers.{Numbers, Replies, sizesRight, asks}
 use Rattle.laws.specs.Neighbours.{Neighbours}
-use Rattle.laws.specs.ReadBack.{ReadsBack}
+use Rattle.laws.specs.ReadBack.{ReadsBack, isSome}
 use Rattle.laws.specs.Pulses.{motorNow, accountNow, travelNow, settingsNow, Ends, byStop, bySwitch, byTarget, byRoom, Demand3, Settled}
 use Rattle.laws.specs.Contacts.{toldNow, Contacts}
 use Rattle.cases.proofs.Beginnings.{lent, says, ticked, ready, running}
@@ -580,13 +580,15 @@ asks-enabled-refused =
     numbered-other asksEnabled (ran urqolina lent (says "REM" ∷ says "SETLS000000000" ∷ [])) (bytes "SCANP0") (Go 0 (Scan cw)) 4 0 refl refl refl refl refl
     (λ e. absurd (omega (arith, e)))
 
--- V is told from contacts that are not known: with SETLS001110111 all three switches would be active.
+-- Reads are answered as if the contacts were known, so that V is told from them: with SETLS001110111 all three switches would be
+-- active.
 abbrev pub showsUnread : Library
 showsUnread =
     withCommand
     (λ t line reply.
-    let a = commandCall (withMotor t 0 (contacted (motorAt t 0) 0)) line reply in
-    record { result = a .result; table = t; reply = a .reply })
+    cond (isSome asks (orderOf line))
+    (record { result = commandCall t line reply .result; table = t; reply = commandCall (withMotor t 0 (contacted (motorAt t 0) (motorAt t 0 .wiring .contacts))) line reply .reply })
+    (commandCall t line reply))
 
 pub shows-unread-refused :
     ((t line reply : List ℕ) (sound : soundTable t ≡ true) (enough : 32 ≤ length reply) → Replies showsUnread t line reply sound enough) → ⊥
