@@ -32,8 +32,8 @@ flags = (refl, refl)
 
 -- A reading ends a drive only by the switch of its direction, with LSEND; HP and the other side end nothing.
 readings :
-    (map (λ n. switchRead (started known (Along cw)) n .drive .going) (0 ∷ 1 ∷ 2 ∷ 4 ∷ 6 ∷ 7 ∷ []) ≡ 1 ∷ 0 ∷ 1 ∷ 1 ∷ 1 ∷ 0 ∷ [])
-    × (map (λ n. switchRead (started known (Along ccw)) n .ended) (0 ∷ 1 ∷ 2 ∷ 5 ∷ 6 ∷ 7 ∷ []) ≡ 0 ∷ 0 ∷ 0x20 ∷ 0 ∷ 0x20 ∷ 0x20 ∷ [])
+    (map (λ n. switchRead (started false known (Along cw)) n .drive .going) (0 ∷ 1 ∷ 2 ∷ 4 ∷ 6 ∷ 7 ∷ []) ≡ 1 ∷ 0 ∷ 1 ∷ 1 ∷ 1 ∷ 0 ∷ [])
+    × (map (λ n. switchRead (started false known (Along ccw)) n .ended) (0 ∷ 1 ∷ 2 ∷ 5 ∷ 6 ∷ 7 ∷ []) ≡ 0 ∷ 0 ∷ 0x20 ∷ 0 ∷ 0x20 ∷ 0x20 ∷ [])
     × (switchRead freshMotor 7 .wiring .contacts ≡ 7) × (switchRead freshMotor 7 .ended ≡ 0)
 unfolding computing-drive known
 readings = (refl, refl, refl, refl)
@@ -42,8 +42,8 @@ readings = (refl, refl, refl, refl)
 -- again.
 known-from-then :
     (map (λ n. switchRead freshMotor n .wiring .read) (0 ∷ 1 ∷ 7 ∷ []) ≡ 1 ∷ 1 ∷ 1 ∷ [])
-    × (map (λ n. switchRead (started known (Along cw)) n .wiring .read) (0 ∷ 1 ∷ []) ≡ 1 ∷ 1 ∷ [])
-    × (stopped 0x40 (started known (Along cw)) .wiring .read ≡ 1)
+    × (map (λ n. switchRead (started false known (Along cw)) n .wiring .read) (0 ∷ 1 ∷ []) ≡ 1 ∷ 1 ∷ [])
+    × (stopped 0x40 (started false known (Along cw)) .wiring .read ≡ 1)
 unfolding computing-drive known
 known-from-then = (refl, refl, refl)
 

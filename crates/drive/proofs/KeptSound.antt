@@ -12,14 +12,14 @@ use Rattle.record.specs.declared.Speeds.{Speeds}
 use Rattle.record.specs.declared.Wiring.{Wiring}
 use Rattle.record.specs.declared.Setup.{Setup}
 use Rattle.record.specs.declared.Motor.{Motor}
-use Rattle.record.specs.Record.{withPlace, withLimits, withSpeeds, withWiring, withSetup}
+use Rattle.record.specs.Record.{withPlace, withLimits, withSpeeds, withWiring, withSetup, withDrive, letGo}
 use Rattle.motor.specs.Switches.{unread, blocked, edge, room}
 use Rattle.motor.specs.Sound.{isSpeed, limitsInRange, speedsInRange, wiringInRange, contactsRight, setupInRange, endFlagsInRange, driveInRange, aimRight, busy, soundMotor}
 use Rattle.motor.proofs.SoundLaws.{and-l, and-r, speed-bounds, InRange, Bounds, sound-parts, sound-busy, busy-sound, sound-standing, standing-sound, range-bounds, sound-bounds, target-position, bounds-drive}
 use Rattle.drive.specs.declared.Course.{Course}
 use Rattle.drive.specs.declared.Course.the-variants.{Stay, Beyond, To, Along}
 use Rattle.drive.specs.declared.Verdict.the-variants.{Done, Disabled, Unread, SwitchAhead, NoRoom}
-use Rattle.drive.specs.Drives.{lsend, speedNumbered, selectedSpeed, courseTo, towards, hindrance, judgeStart, wellAimed, launched, started, endedWith, stopped, speedChanged, contacted, switchRead}
+use Rattle.drive.specs.Drives.{lsend, speedNumbered, selectedSpeed, courseTo, towards, hindrance, judgeStart, wellAimed, launched, started, released, endedWith, stopped, speedChanged, contacted, switchRead}
 
 -- A drive that ends leaves a sound motor, whatever ends it.
 pub ended-sound : (flags : ℕ) (m : Motor) → endFlagsInRange flags ≡ true → InRange m → soundMotor (endedWith flags m) ≡ true
@@ -116,17 +116,17 @@ selected-bounds m r = go (eqb (m .speeds .selected) 0) (eqb (m .speeds .selected
 
 -- An accepted start leaves a sound motor.
 launched-sound :
-    (m : Motor) (going kind target : ℕ) → InRange m → hindrance m going ≡ Done → 1 ≤ going → going ≤ 2 → kind ≤ 1
-    → isPosition target ≡ true → aimRight (launched m going kind target) ≡ true → soundMotor (launched m going kind target) ≡ true
+    (paused : Bool) (m : Motor) (going kind target : ℕ) → InRange m → hindrance m going ≡ Done → 1 ≤ going → going ≤ 2 → kind ≤ 1
+    → isPosition target ≡ true → aimRight (launched paused m going kind target) ≡ true → soundMotor (launched paused m going kind target) ≡ true
 unfolding room edge blocked
-launched-sound m going kind target r h low high k t a =
+launched-sound paused m going kind target r h low high k t a =
     let n = nothing-hinders m going h in
     let v = selected-bounds m r in
-    let drive = bounds-drive (launched m going kind target .drive) high k (omega arith) t in
+    let drive = bounds-drive (launched paused m going kind target .drive) high k (omega arith) t in
     let ready : m .setup .a ≡ 1 = omega (arith, eqb-false (m .setup .a) 0 (n .ready), range-bounds m r .setup) in
     let read : m .wiring .read ≡ 1 = omega (arith, eqb-false (m .wiring .read) 0 (n .read), range-bounds m r .read) in
     let leeway : 1 ≤ room going m = omega (arith, eqb-false (room going m) 0 (n .leeway)) in
-    busy-sound (launched m going kind target) (search) (search) (rw (ne-eqb going 0 (omega arith)))
+    busy-sound (launched paused m going kind target) (search) (search) (rw (ne-eqb going 0 (omega arith)))
 
 -- Another place lies ahead in the direction towards it, which is CW or CCW.
 pub towards-ahead :
@@ -150,16 +150,34 @@ two-ways going = go (eqb going cw) refl (eqb going ccw) refl
     go false t false u e = absurd (false≢true e)
 
 pub started-sound :
-    (m : Motor) (c : Course) → soundMotor m ≡ true → judgeStart m c ≡ Done → wellAimed m c ≡ true → soundMotor (started m c) ≡ true
+    (paused : Bool) (m : Motor) (c : Course) → soundMotor m ≡ true → judgeStart m c ≡ Done → wellAimed m c ≡ true → soundMotor (started paused m c) ≡ true
 unfolding started judgeStart aimRight
-started-sound m Stay s h a = s
-started-sound m Beyond s h a = s
-started-sound m (To p) s h a =
+started-sound paused m Stay s h a = s
+started-sound paused m Beyond s h a = s
+started-sound paused m (To p) s h a =
     let t = towards-ahead m p (not-true _ (and-r (isPosition p) _ a)) in
-    launched-sound m (towards m p) 1 p (sound-parts m s .range) h (t .0) (t .1) (omega arith) (and-l _ _ a) (le-leb 1 _ (t .2))
-started-sound m (Along going) s h a =
+    launched-sound paused m (towards m p) 1 p (sound-parts m s .range) h (t .0) (t .1) (omega arith) (and-l _ _ a) (le-leb 1 _ (t .2))
+started-sound paused m (Along going) s h a =
     let t = two-ways going a in
-    launched-sound m going 0 origin (sound-parts m s .range) h (t .0) (t .1) (omega arith) refl refl
+    launched-sound paused m going 0 origin (sound-parts m s .range) h (t .0) (t .1) (omega arith) refl refl
+
+-- A release leaves a sound motor: a driving one keeps the rules by what is left of it.
+pub released-sound : (m : Motor) → soundMotor m ≡ true → soundMotor (released m) ≡ true
+unfolding released room edge blocked aimRight
+released-sound m s = go (m .drive .held) refl
+  where
+    go : (t : Bool) → m .drive .held ≡ t → soundMotor (cond t (withDrive m (m .ended) (letGo (m .drive))) m) ≡ true
+    go false e = s
+    go true e = way (busy m) refl
+      where
+        way : (b : Bool) → busy m ≡ b → soundMotor (withDrive m (m .ended) (letGo (m .drive))) ≡ true
+        way true d =
+            let r = sound-parts m s .range in
+            let w = sound-busy m s d in
+            let f = sound-bounds m s in
+            let drive = bounds-drive (letGo (m .drive)) (f .going) (f .kind) (f .fraction) (target-position (m .drive) (r .drive)) in
+            busy-sound (withDrive m (m .ended) (letGo (m .drive))) (search) (search) d
+        way false d = absurd (false≢true (rw (sound-standing m s d) at e))
 
 -- A setting of a stopped motor leaves a sound motor: whatever changes, if every field is in its range and the drive is as it
 -- was. The settings are a position, the limits, the speeds, the SETLS byte and the SETMT digits.

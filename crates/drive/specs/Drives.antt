@@ -9,7 +9,7 @@ use Rattle.drive.specs.declared.Course.{Course}
 use Rattle.drive.specs.declared.Course.the-variants.{Stay, Beyond, To, Along}
 use Rattle.drive.specs.declared.Verdict.{Verdict}
 use Rattle.drive.specs.declared.Verdict.the-variants.{Done, OutOfRange, Disabled, Unread, SwitchAhead, NoRoom, NotDriving}
-use Rattle.record.specs.Record.{withWiring, withDrive, withSpeedInForce, standing}
+use Rattle.record.specs.Record.{withWiring, withDrive, withSpeedInForce, letGo, standing}
 use Rattle.motor.specs.Switches.{unread, blocked, room}
 use Rattle.motor.specs.Sound.{busy}
 
@@ -62,17 +62,22 @@ wellAimed m Beyond = true
 wellAimed m (To p) = isPosition p && not (eqb p (m .place))
 wellAimed m (Along going) = eqb going cw || eqb going ccw
 
--- "A start takes the selected speed, fraction 0, and clears the end flags."
-abbrev pub launched : Motor → ℕ → ℕ → ℕ → Motor
-launched m going kind target =
-    withDrive m 0 (record { going = going; kind = kind; fraction = 0; speed = selectedSpeed m; target = target })
+-- "A start takes the selected speed, fraction 0, and clears the end flags." 02 §3: while pause is on, "an accepted start is a held
+-- drive"
+abbrev pub launched : Bool → Motor → ℕ → ℕ → ℕ → Motor
+launched paused m going kind target =
+    withDrive m 0 (record { going = going; held = paused; kind = kind; fraction = 0; speed = selectedSpeed m; target = target })
 
 -- the motor after an accepted start; "ABS to the present position, REL 0 .. are OK and change nothing"
-unfoldable pub started : Motor → Course → Motor
-started m Stay = m
-started m Beyond = m
-started m (To p) = launched m (towards m p) 1 p
-started m (Along going) = launched m going 0 origin
+unfoldable pub started : Bool → Motor → Course → Motor
+started paused m Stay = m
+started paused m Beyond = m
+started paused m (To p) = launched paused m (towards m p) 1 p
+started paused m (Along going) = launched paused m going 0 origin
+
+-- 02 §3: "OFF releases all": what is held is held no more, and all else of it stays
+unfoldable pub released : Motor → Motor
+released m = cond (m .drive .held) (withDrive m (m .ended) (letGo (m .drive))) m
 
 -- "Ending zeroes bytes 32..43", and sets the end flags
 abbrev pub endedWith : ℕ → Motor → Motor

@@ -22,7 +22,7 @@ use record::Wiring;
 use record::no_drive;
 ghost use mathlib.Core.Path.{_≡_};
 ghost use Rattle.record.specs.Record.{withWiring, withDrive};
-ghost use Rattle.drive.specs.Drives.{speedNumbered, courseTo, towards, hindrance, judgeStart, launched, started};
+ghost use Rattle.drive.specs.Drives.{speedNumbered, courseTo, towards, hindrance, judgeStart, launched, started, released};
 ghost use Rattle.drive.specs.Drives.{endedWith, stopped, judgeSpeedChange, speedChanged, contacted, switchRead};
 
 // The end flag of a drive that a switch or the end of its room ended.
@@ -124,14 +124,15 @@ pub fn judge_start(m: Motor, c: Course) -> Verdict
     }
 }
 
-// The motor as it leaves: at the selected speed, with nothing carried and the end flags clear.
-fn launch(m: Motor, going: u8, kind: u8, target: u32) -> Motor
-    ensures { λ r. ⌜ r ≡ launched m going kind target ⌝ }
+// The motor as it leaves, or as it waits for its release: at the selected speed, with nothing carried and the end flags clear.
+fn launch(paused: bool, m: Motor, going: u8, kind: u8, target: u32) -> Motor
+    ensures { λ r. ⌜ r ≡ launched paused m going kind target ⌝ }
 {
     let speeds = m.speeds;
     let speed = speed_numbered(speeds.selected, speeds);
     let d = Drive {
         going,
+        held: paused,
         kind,
         fraction: 0,
         speed,
@@ -140,15 +141,28 @@ fn launch(m: Motor, going: u8, kind: u8, target: u32) -> Motor
     with_drive(m, 0, d)
 }
 
-// The motor after an accepted start: a scan either way, to a target, or nowhere.
-pub fn start(m: Motor, c: Course) -> Motor
-    ensures { λ r. ⌜ r ≡ started m c ⌝ }
+// The motor after an accepted start: a scan either way, to a target, or nowhere; held where pause is on.
+pub fn start(paused: bool, m: Motor, c: Course) -> Motor
+    ensures { λ r. ⌜ r ≡ started paused m c ⌝ }
 {
     match c {
         Course::Stay => m,
         Course::Beyond => m,
-        Course::To(p) => launch(m, direction_to(m, p), 1, p),
-        Course::Along(going) => launch(m, going, 0, ORIGIN),
+        Course::To(p) => launch(paused, m, direction_to(m, p), 1, p),
+        Course::Along(going) => launch(paused, m, going, 0, ORIGIN),
+    }
+}
+
+// The motor with its drive held no more; every other motor stays as it is.
+pub fn release(m: Motor) -> Motor
+    ensures { λ r. ⌜ r ≡ released m ⌝ }
+{
+    let mut d = m.drive;
+    if d.held {
+        d.held = false;
+        with_drive(m, m.ended, d)
+    } else {
+        m
     }
 }
 

@@ -1,7 +1,10 @@
-// The rows that the requests of document 02 add after the others, none yet. What such a row is to this crate stands here: its
-// word, its number, what follows the word, and the order that it makes.
+// The rows that the requests of document 02 add after the others. What such a row is to this crate stands here: its word, its
+// number, what follows the word, and the order that it makes; of a word's second row only that it is one stands in rows.rt.
 
 use line::Fields;
+use line::HeadOrder;
+use line::HeadQuestion;
+use line::Order;
 use line::Parsed;
 use line::Tail;
 ghost use mathlib.Core.Path.{_≡_};
@@ -12,14 +15,29 @@ ghost use Rattle.line.specs.Forms.{forms, requestRows};
 ghost use Rattle.line.specs.Tails.{fieldsOf};
 ghost use Rattle.form.specs.Table.{rowsWith, Numbers, fieldsBy, orderBy};
 
-// So many rows there are: the number of none of them.
-pub const NO_ROW: u8 = 41;
+// PAUSE ON, PAUSE OFF and PAUSE?. The space is the last letter of the first word, which has two rows.
+pub const PAUSE: u64 = 0x50_41_55_53_45_20;
 
-// The row of a word.
+pub const ASK_PAUSE: u64 = 0x50_41_55_53_45_3f;
+
+pub const PAUSE_ON_ROW: u8 = 41;
+
+pub const PAUSE_OFF_ROW: u8 = 42;
+
+pub const ASK_PAUSE_ROW: u8 = 43;
+
+// So many rows there are: the number of none of them.
+pub const NO_ROW: u8 = 44;
+
+// The first row of a word.
 pub fn request_row(word: u64) -> u8
     ensures { λ r. ⌜ Numbers r (rowsWith word requestRows) ⌝ }
 {
-    NO_ROW
+    match word {
+        PAUSE => PAUSE_ON_ROW,
+        ASK_PAUSE => ASK_PAUSE_ROW,
+        _ => NO_ROW,
+    }
 }
 
 // What follows the word of a row; what no line has where there is no row.
@@ -27,7 +45,12 @@ pub fn request_tail(row: u8) -> Tail
     requires { ⌜ 41 ≤ row ⌝ }
     ensures { λ r. ⌜ fieldsOf r ≡ fieldsBy (drop row forms) ⌝ }
 {
-    Tail::NoLine
+    match row {
+        PAUSE_ON_ROW => Tail::TurnOn,
+        PAUSE_OFF_ROW => Tail::TurnOff,
+        ASK_PAUSE_ROW => Tail::Alone,
+        _ => Tail::NoLine,
+    }
 }
 
 // The order that a row makes of its fields; nothing where there is no row.
@@ -35,5 +58,10 @@ pub fn request_order(row: u8, f: Fields) -> Parsed
     requires { ⌜ 41 ≤ row ⌝ }
     ensures { λ r. ⌜ r ≡ orderBy (drop row forms) f Nothing ⌝ }
 {
-    Parsed::Nothing
+    match row {
+        PAUSE_ON_ROW => Parsed::Is(Order::ForHead(HeadOrder::Pause(1))),
+        PAUSE_OFF_ROW => Parsed::Is(Order::ForHead(HeadOrder::Pause(0))),
+        ASK_PAUSE_ROW => Parsed::Is(Order::AskHead(HeadQuestion::AskPause)),
+        _ => Parsed::Nothing,
+    }
 }

@@ -1,6 +1,8 @@
 // The rows of the forms by number, in document 01's order of the lines, and the row that a word has.
 
 use crate::requests::NO_ROW;
+use crate::requests::PAUSE;
+use crate::requests::PAUSE_OFF_ROW;
 use crate::requests::request_row;
 use crate::words::*;
 ghost use mathlib.Core.Bool.{true, false};
@@ -159,6 +161,7 @@ pub fn second_row(word: u64) -> u8
         SPDL => SET_SPDL_ROW,
         ALL_REP => ALL_REP_DS_ROW,
         ERRC => ERRCE_ROW,
+        PAUSE => PAUSE_OFF_ROW,
         _ => NO_ROW,
     }
 }

@@ -11,7 +11,7 @@ use Rattle.text.specs.Text.{same, bytes}
 use Rattle.line.specs.declared.Fields.{Fields}
 use Rattle.line.specs.declared.Written.{Written}
 use Rattle.line.specs.declared.Field.{Field}
-use Rattle.line.specs.declared.Field.the-variants.{Channel, Signed, Unsigned, Digit, Question, FourDigits, ZeroThree, Enable, Disable, End, Never}
+use Rattle.line.specs.declared.Field.the-variants.{Channel, Signed, Unsigned, Digit, Question, FourDigits, ZeroThree, Enable, Disable, On, Off, End, Never}
 use Rattle.line.specs.declared.Got.{Got}
 use Rattle.line.specs.declared.Got.the-variants.{Here, Absent}
 use Rattle.line.specs.declared.Order.{Order}
@@ -33,6 +33,8 @@ sample d FourDigits = bytes "1012"
 sample d ZeroThree = bytes "0110"
 sample d Enable = bytes "EN"
 sample d Disable = bytes "DS"
+sample d On = bytes "ON"
+sample d Off = bytes "OFF"
 sample d End = []
 sample d Never = []
 
@@ -46,6 +48,8 @@ worth n FourDigits f = withFirst f (record { a = 1; b = 0; c = 1; d = 2 })
 worth n ZeroThree f = withSecond f (record { a = 0; b = 1; c = 1; d = 0 })
 worth n Enable f = f
 worth n Disable f = f
+worth n On f = f
+worth n Off f = f
 worth n End f = f
 worth n Never f = f
 

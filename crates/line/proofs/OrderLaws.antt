@@ -14,13 +14,13 @@ use Rattle.text.specs.declared.decimal.Number.{Number}
 use Rattle.text.specs.declared.decimal.Number.the-variants as N
 use Rattle.line.specs.declared.Fields.{Fields}
 use Rattle.line.specs.declared.Field.{Field}
-use Rattle.line.specs.declared.Field.the-variants.{Channel, Signed, Unsigned, Digit, Question, FourDigits, ZeroThree, Enable, Disable, End, Never}
+use Rattle.line.specs.declared.Field.the-variants.{Channel, Signed, Unsigned, Digit, Question, FourDigits, ZeroThree, Enable, Disable, On, Off, End, Never}
 use Rattle.line.specs.declared.Got.{Got}
 use Rattle.line.specs.declared.Got.the-variants.{Here, Absent}
 use Rattle.line.specs.declared.Order.{Order}
 use Rattle.line.specs.declared.Parsed.{Parsed}
 use Rattle.line.specs.declared.Parsed.the-variants.{Is, Nothing}
-use Rattle.line.specs.Shapes.{gotIf, withChannel, withWritten, withFirst, withSecond, byteAt, digitAt, fourOf, numbered, noFields, onward, readChannel, readNumber, readSigned, readDigit, readQuestion, readLetters, readFour, readZeroThree, readField, readFields}
+use Rattle.line.specs.Shapes.{gotIf, withChannel, withWritten, withFirst, withSecond, byteAt, digitAt, fourOf, numbered, noFields, onward, readChannel, readNumber, readSigned, readDigit, readQuestion, readLetters, readThree, readFour, readZeroThree, readField, readFields}
 use Rattle.line.specs.Forms.{Row, forms, complete, fieldsAsRow, asRow, firstOf, firstForm, orderOf}
 use Rattle.line.specs.Made.{orderMade, parsedMade}
 use Rattle.line.specs.Computing.{computing-line}
@@ -79,7 +79,7 @@ zero-made f s at h = go (leb 4 (digitsAtFront (drop at s))) (eqb (byteAt s at) (
 
 -- A field that is read leaves fields so made.
 field-made : (k : Field) (f : Fields) (s : List ℕ) (at : ℕ) → fieldsMade f ≡ true → gotMade (readField k f s at) ≡ true
-unfolding readNumber readSigned readDigit readQuestion readLetters readFour
+unfolding readNumber readSigned readDigit readQuestion readLetters readThree readFour
 field-made Channel f s at h = channel-made f s at h
 field-made Signed f s at h =
     let n : Number = numberAtFront (drop (at + 1) s) in
@@ -92,6 +92,9 @@ field-made FourDigits f s at h = got-made (leb 4 (digitsAtFront (drop at s))) (w
 field-made ZeroThree f s at h = zero-made f s at h
 field-made Enable f s at h = got-made (eqb (byteAt s at) (code "E") && eqb (byteAt s (at + 1)) (code "N")) f (at + 2) h
 field-made Disable f s at h = got-made (eqb (byteAt s at) (code "D") && eqb (byteAt s (at + 1)) (code "S")) f (at + 2) h
+field-made On f s at h = got-made (eqb (byteAt s at) (code "O") && eqb (byteAt s (at + 1)) (code "N")) f (at + 2) h
+field-made Off f s at h =
+    got-made (eqb (byteAt s at) (code "O") && eqb (byteAt s (at + 1)) (code "F") && eqb (byteAt s (at + 2)) (code "F")) f (at + 3) h
 field-made End f s at h = h
 field-made Never f s at h = refl
 

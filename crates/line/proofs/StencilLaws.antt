@@ -16,10 +16,10 @@ use Rattle.text.specs.Text.{same, isDigit, isHex, digitsAtFront, valueOf, numbe
 use Rattle.text.specs.declared.decimal.Number.the-variants as N
 use Rattle.line.specs.declared.Fields.{Fields}
 use Rattle.line.specs.declared.Field.{Field}
-use Rattle.line.specs.declared.Field.the-variants.{Channel, Signed, Unsigned, Digit, Question, FourDigits, ZeroThree, Enable, Disable, End, Never}
+use Rattle.line.specs.declared.Field.the-variants.{Channel, Signed, Unsigned, Digit, Question, FourDigits, ZeroThree, Enable, Disable, On, Off, End, Never}
 use Rattle.line.specs.declared.Got.{Got}
 use Rattle.line.specs.declared.Got.the-variants.{Here, Absent}
-use Rattle.line.specs.Shapes.{gotIf, byteAt, readChannel, readNumber, readSigned, readDigit, readQuestion, readLetters, readFour, readZeroThree, readField, onward, readFields, numbered}
+use Rattle.line.specs.Shapes.{gotIf, byteAt, readChannel, readNumber, readSigned, readDigit, readQuestion, readLetters, readThree, readFour, readZeroThree, readField, onward, readFields, numbered}
 
 -- bytes from one to another, both among them
 pub record Range : Type 0 where
@@ -127,6 +127,8 @@ classes FourDigits = decimals ∷ decimals ∷ decimals ∷ decimals ∷ []
 classes ZeroThree = just (code "0") ∷ decimals ∷ decimals ∷ decimals ∷ []
 classes Enable = just (code "E") ∷ just (code "N") ∷ []
 classes Disable = just (code "D") ∷ just (code "S") ∷ []
+classes On = just (code "O") ∷ just (code "N") ∷ []
+classes Off = just (code "O") ∷ just (code "F") ∷ just (code "F") ∷ []
 classes End = []
 classes Never = []
 
@@ -141,6 +143,8 @@ goesOn FourDigits = false
 goesOn ZeroThree = false
 goesOn Enable = false
 goesOn Disable = false
+goesOn On = false
+goesOn Off = false
 goesOn End = false
 goesOn Never = false
 
@@ -240,10 +244,25 @@ letters-fit a b f g s at to cs e p q r h =
     let n : at + 1 + 1 ≡ to = omega (arith, t .1) in
     just-fits a (just b ∷ cs) e s at p (both .0) (just-fits b cs e s (at + 1) q (both .1) (rw n h))
 
+three-fit : (a b c : ℕ) (f g : Fields) (s : List ℕ) (at to : ℕ) (cs : List (List Range)) (e : Bool) → 0 < a → 0 < b → 0 < c
+    → readThree a b c f s at ≡ Here g to → fits cs e (drop to s) ≡ true → fits (just a ∷ just b ∷ just c ∷ cs) e (drop at s) ≡ true
+unfolding readThree
+three-fit a b c f g s at to cs e p q o r h =
+    let x = eqb (byteAt s at) a in
+    let y = eqb (byteAt s (at + 1)) b in
+    let z = eqb (byteAt s (at + 2)) c in
+    let t = got-if (x && y && z) f g (at + 3) to r in
+    let last = and-eq-true-iff (x && y) z .0 (t .0) in
+    let both = and-eq-true-iff x y .0 (last .0) in
+    let m : at + 2 ≡ at + 1 + 1 = omega arith in
+    let n : at + 1 + 1 + 1 ≡ to = omega (arith, t .1) in
+    just-fits a (just b ∷ just c ∷ cs) e s at p (both .0)
+    (just-fits b (just c ∷ cs) e s (at + 1) q (both .1) (just-fits c cs e s (at + 1 + 1) o (rw m at (last .1)) (rw n h)))
+
 -- A field that is read fits its bytes; what fits after it does not matter where a number may go on.
 pub field-fits : (k : Field) (f g : Fields) (s : List ℕ) (at to : ℕ) (cs : List (List Range)) (e : Bool) → readField k f s at ≡ Here g to
     → fits cs e (drop to s) ≡ true → fits (classes k ++ cond (goesOn k) [] cs) (cond (goesOn k) false e) (drop at s) ≡ true
-unfolding readChannel readSigned readDigit readQuestion readLetters readFour readZeroThree here place
+unfolding readChannel readSigned readDigit readQuestion readLetters readThree readFour readZeroThree here place
 field-fits Channel f g s at to cs e r h =
     let t = got-if (isHex (byteAt s at)) _ g (at + 1) to r in
     byte-fits hexes cs e s at refl (hex-within (byteAt s at) (t .0)) (rw (t .1) h)
@@ -282,6 +301,8 @@ field-fits ZeroThree f g s at to cs e r h =
     just-fits (code "0") (decimals ∷ decimals ∷ decimals ∷ cs) e s at (omega arith) (both .1) (three-decimals cs e s (at + 1) (a .1) (rw p h))
 field-fits Enable f g s at to cs e r h = letters-fit (code "E") (code "N") f g s at to cs e (omega arith) (omega arith) r h
 field-fits Disable f g s at to cs e r h = letters-fit (code "D") (code "S") f g s at to cs e (omega arith) (omega arith) r h
+field-fits On f g s at to cs e r h = letters-fit (code "O") (code "N") f g s at to cs e (omega arith) (omega arith) r h
+field-fits Off f g s at to cs e r h = three-fit (code "O") (code "F") (code "F") f g s at to cs e (omega arith) (omega arith) (omega arith) r h
 field-fits End f g s at to cs e r h = rw (ap place r) h
 field-fits Never f g s at to cs e r h = absurd (false≢true (ap here r))
 

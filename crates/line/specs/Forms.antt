@@ -16,14 +16,14 @@ use Rattle.line.specs.declared.Question.{Question}
 use Rattle.line.specs.declared.Question.the-variants.{AskPosition, AskCwLimit, AskCcwLimit, AskSelected, AskSpeed, AskSwitches, AskMotor, AskStatus}
 use Rattle.line.specs.declared.Order.{Order}
 use Rattle.line.specs.declared.Order.the-variants.{Go, Stop, StopAll, ChangeSpeed, Set, Ask, AskHead, ForHead}
-use Rattle.line.specs.declared.HeadOrder.the-variants.{Mode, AllReply, ClearErrors, ClearError}
-use Rattle.line.specs.declared.HeadQuestion.the-variants.{AskAllReply, AskFlags, AskError}
+use Rattle.line.specs.declared.HeadOrder.the-variants.{Mode, AllReply, ClearErrors, ClearError, Pause}
+use Rattle.line.specs.declared.HeadQuestion.the-variants.{AskAllReply, AskFlags, AskError, AskPause}
 use Rattle.line.specs.declared.Parsed.{Parsed}
 use Rattle.line.specs.declared.Parsed.the-variants.{Is, Nothing}
 use Rattle.line.specs.declared.Field.{Field}
 use Rattle.line.specs.declared.Got.{Got}
 use Rattle.line.specs.declared.Got.the-variants.{Here, Absent}
-use Rattle.line.specs.Shapes.{alone, x, x±d, xd, xDYYY0yyy, xABCD, x?, e, EN, DS, noFields, readFields}
+use Rattle.line.specs.Shapes.{alone, x, x±d, xd, xDYYY0yyy, xABCD, x?, e, EN, DS, ON, OFF, noFields, readFields}
 
 -- a form: a word, the fields after it, and the order that it is
 pub record Row : Type 0 where
@@ -133,10 +133,14 @@ headRows =
     ∷ row "ERRC" e (λ f. ForHead (ClearError (f .written .digits)))
     ∷ []
 
--- The forms that the requests of document 02 add, in the order of the requests; none yet. A row is added at the end, so that no
--- other row's number shifts.
+-- The forms that the requests of document 02 add, in the order of the requests. A row is added at the end, so that no other row's
+-- number shifts. 02 §3: "Add `PAUSE ON`, `PAUSE OFF` and `PAUSE?`".
 abbrev pub requestRows : List Row
-requestRows = []
+requestRows =
+    row "PAUSE " ON (λ f. ForHead (Pause 1))
+    ∷ row "PAUSE " OFF (λ f. ForHead (Pause 0))
+    ∷ row "PAUSE?" alone (λ f. AskHead AskPause)
+    ∷ []
 
 -- a line is read whole: nothing follows the fields
 abbrev pub complete : (Fields → Order) → List ℕ → Got → Parsed

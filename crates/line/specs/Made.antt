@@ -12,7 +12,7 @@ use Rattle.line.specs.declared.Setting.the-variants.{Preset, SetCwLimit,
 use Rattle.line.specs.declared.Order.{Order}
 use Rattle.line.specs.declared.Order.the-variants.{Go, Stop, StopAll, ChangeSpeed, Set, Ask, AskHead, ForHead}
 use Rattle.line.specs.declared.HeadOrder.{HeadOrder}
-use Rattle.line.specs.declared.HeadOrder.the-variants.{Mode, AllReply, ClearErrors, ClearError}
+use Rattle.line.specs.declared.HeadOrder.the-variants.{Mode, AllReply, ClearErrors, ClearError, Pause}
 use Rattle.line.specs.declared.Parsed.{Parsed}
 use Rattle.line.specs.declared.Parsed.the-variants.{Is, Nothing}
 use Rattle.line.specs.Forms.{ssend, esend}
@@ -48,6 +48,7 @@ headMade (Mode k) = leb k 1
 headMade (AllReply k) = leb k 1
 headMade ClearErrors = true
 headMade (ClearError e) = true
+headMade (Pause k) = leb k 1
 
 -- an order as a line makes it
 unfoldable pub orderMade : Order → Bool

@@ -12,7 +12,7 @@ use Rattle.text.specs.declared.decimal.Number.the-variants.{Nothing, Read}
 use Rattle.line.specs.declared.Four.{Four}
 use Rattle.line.specs.declared.Fields.{Fields}
 use Rattle.line.specs.declared.Field.{Field}
-use Rattle.line.specs.declared.Field.the-variants.{Channel, Signed, Unsigned, Digit, Question, FourDigits, ZeroThree, Enable, Disable, End, Never}
+use Rattle.line.specs.declared.Field.the-variants.{Channel, Signed, Unsigned, Digit, Question, FourDigits, ZeroThree, Enable, Disable, On, Off, End, Never}
 use Rattle.line.specs.declared.Got.{Got}
 use Rattle.line.specs.declared.Got.the-variants.{Here, Absent}
 
@@ -60,6 +60,14 @@ EN = Enable ∷ []
 -- as in `ALL_REP DS`
 abbrev pub DS : List Field
 DS = Disable ∷ []
+
+-- as in `PAUSE ON`
+abbrev pub ON : List Field
+ON = On ∷ []
+
+-- as in `PAUSE OFF`
+abbrev pub OFF : List Field
+OFF = Off ∷ []
 
 -- no field yet
 abbrev pub noFields : Fields
@@ -123,9 +131,13 @@ readDigit f s at = gotIf (isDigit (byteAt s at)) (withWritten f false (digitAt s
 unfoldable pub readQuestion : Fields → List ℕ → ℕ → Got
 readQuestion f s at = gotIf (eqb (byteAt s at) (code "?")) f (at + 1)
 
--- "`ALL_REP EN`, `ALL_REP DS`": two letters
+-- "`ALL_REP EN`, `ALL_REP DS`", and 02 §3: "`PAUSE ON`": two letters
 unfoldable pub readLetters : ℕ → ℕ → Fields → List ℕ → ℕ → Got
 readLetters a b f s at = gotIf (eqb (byteAt s at) a && eqb (byteAt s (at + 1)) b) f (at + 2)
+
+-- 02 §3: "`PAUSE OFF`": three letters
+unfoldable pub readThree : ℕ → ℕ → ℕ → Fields → List ℕ → ℕ → Got
+readThree a b c f s at = gotIf (eqb (byteAt s at) a && eqb (byteAt s (at + 1)) b && eqb (byteAt s (at + 2)) c) f (at + 3)
 
 -- the four digits from a place on
 abbrev pub fourOf : List ℕ → ℕ → Four
@@ -150,6 +162,8 @@ readField FourDigits f s at = readFour f s at
 readField ZeroThree f s at = readZeroThree f s at
 readField Enable f s at = readLetters (code "E") (code "N") f s at
 readField Disable f s at = readLetters (code "D") (code "S") f s at
+readField On f s at = readLetters (code "O") (code "N") f s at
+readField Off f s at = readThree (code "O") (code "F") (code "F") f s at
 readField End f s at = Here f at
 readField Never f s at = Absent
 

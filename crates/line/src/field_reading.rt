@@ -18,7 +18,7 @@ ghost use Prim.Native.Nat.{_+_, _<_, _≤_};
 ghost use lib.ListN.{length};
 ghost use Rattle.text.specs.Text.{isHex, hexValue, digitValue};
 ghost use Rattle.line.specs.Shapes.{noFields, withChannel, withWritten, withFirst, withSecond, byteAt, fourOf};
-ghost use Rattle.line.specs.Shapes.{readChannel, readNumber, readSigned, readDigit, readQuestion, readLetters};
+ghost use Rattle.line.specs.Shapes.{readChannel, readNumber, readSigned, readDigit, readQuestion, readLetters, readThree};
 ghost use Rattle.line.specs.Shapes.{readFour, readZeroThree, readFields};
 ghost use Rattle.line.specs.Tails.{afterX, fieldsOf};
 ghost use Rattle.line.specs.declared.Field.the-variants.{Channel, FourDigits, ZeroThree};
@@ -170,6 +170,26 @@ fn letters_at(s: &[u8], at: usize, a: u8, b: u8, f: Fields) -> Got
     }
 }
 
+// Three letters. None is 0 either.
+fn three_letters_at(s: &[u8], at: usize, a: u8, b: u8, c: u8, f: Fields) -> Got
+    requires { ⌜ (0 < a) × (0 < b) × (0 < c) ⌝ }
+    ensures { λ r. ⌜ r ≡ readThree a b c f (now (s .entry)) at ⌝ }
+{
+    if byte_or_zero(s, at) == a {
+        if byte_or_zero(s, at + 1) == b {
+            if byte_or_zero(s, at + 2) == c {
+                Got::Here(f, at + 3)
+            } else {
+                Got::Absent
+            }
+        } else {
+            Got::Absent
+        }
+    } else {
+        Got::Absent
+    }
+}
+
 // The four digits from a place on, which the caller has counted.
 fn four_digits(s: &[u8], at: usize) -> Four
     requires { ⌜ at + 4 ≤ length (now s) ⌝ }
@@ -275,6 +295,8 @@ pub fn fields_at(s: &[u8], at: usize, tail: Tail) -> Got
         Tail::OneDigit => digit_at(s, at, f),
         Tail::Enabling => letters_at(s, at, b'E', b'N', f),
         Tail::Disabling => letters_at(s, at, b'D', b'S', f),
+        Tail::TurnOn => letters_at(s, at, b'O', b'N', f),
+        Tail::TurnOff => three_letters_at(s, at, b'O', b'F', b'F', f),
         Tail::NoLine => Got::Absent,
     }
 }

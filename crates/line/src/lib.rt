@@ -45,6 +45,10 @@ pub enum Field {
     Enable,
     // DS
     Disable,
+    // ON
+    On,
+    // OFF
+    Off,
     End,
     Never,
 }
@@ -62,6 +66,10 @@ pub enum Tail {
     Enabling,
     // DS
     Disabling,
+    // ON
+    TurnOn,
+    // OFF
+    TurnOff,
     NoLine,
 }
 
@@ -145,9 +153,12 @@ pub enum HeadQuestion {
     AskFlags,
     // ERR?
     AskError,
+    // PAUSE?
+    AskPause,
 }
 
-// What is to be changed in the head. Mode and all-reply carry the byte that it is to hold: 0 local, 1 remote; 0 off, 1 on.
+// What is to be changed in the head. Mode, all-reply and pause carry the byte that it is to hold: 0 local, 1 remote; 0 off, 1
+// on.
 pub enum HeadOrder {
     // LOC, REM
     Mode(u8),
@@ -157,6 +168,8 @@ pub enum HeadOrder {
     ClearErrors,
     // ERRCe
     ClearError(u64),
+    // PAUSE ON, PAUSE OFF
+    Pause(u8),
 }
 
 // An order, with the channel that it names first. A stop carries the end flag that it sets. What concerns the head has two

@@ -10,7 +10,7 @@ use Rattle.digits.specs.Places.{origin, cw, ccw}
 use Rattle.record.specs.declared.Motor.{Motor}
 use Rattle.record.specs.Record.{recordOf, freshMotor, withPlace, withLimits, withWiring, withDrive, standing}
 use Rattle.motor.specs.Switches.{active, blocked, room}
-use Rattle.motor.specs.Sound.{soundRecord}
+use Rattle.motor.specs.Sound.{soundRecord, soundUnder}
 use Rattle.motor.specs.Computing.{computing-motor}
 
 -- a fresh motor whose contacts are read, with the SETLS byte and the contacts given, and with the CW limit at position n and D = 1
@@ -41,7 +41,7 @@ rooms = (refl, refl, refl, refl, refl, refl, refl, refl)
 
 -- a fresh motor with its contacts read and open, that drives CW to position +5 at 800 pps
 underway : Motor
-underway = withDrive (wired 0b01110000 0) 0 (record { going = cw; kind = 1; fraction = 0; speed = 800; target = origin + 5 })
+underway = withDrive (wired 0b01110000 0) 0 (record { going = cw; held = false; kind = 1; fraction = 0; speed = 800; target = origin + 5 })
 
 -- a fresh record's bytes, those of one whose contacts are read, and those of a record that drives
 fresh-bytes : List ℕ
@@ -80,7 +80,7 @@ busy-soundness :
     × (damaged driving-bytes 27 (0 ∷ []) ≡ false) × (damaged driving-bytes 0 (0xff ∷ 0xff ∷ 0xff ∷ 0x7f ∷ []) ≡ false)
     × (map (λ n. damaged driving-bytes 26 (n ∷ [])) (1 ∷ 2 ∷ 4 ∷ []) ≡ false ∷ true ∷ true ∷ [])
     × (map (λ n. damaged driving-bytes 40 (n ∷ [])) (0 ∷ 1 ∷ []) ≡ false ∷ true ∷ [])
-    × (map (λ n. damaged driving-bytes 32 (n ∷ [])) (2 ∷ 3 ∷ []) ≡ false ∷ false ∷ [])
+    × (map (λ n. damaged driving-bytes 32 (n ∷ [])) (2 ∷ 5 ∷ []) ≡ false ∷ false ∷ [])
     × (map (λ n. damaged driving-bytes 33 n) ((0 ∷ []) ∷ (2 ∷ []) ∷ (0 ∷ 0 ∷ 0 ∷ 0x20 ∷ 3 ∷ 0 ∷ 0 ∷ 0 ∷ []) ∷ []) ≡ false ∷ false ∷ true ∷ [])
     × (map (λ n. damaged driving-bytes 34 (wordBytes 2 n)) (999 ∷ 1000 ∷ []) ≡ true ∷ false ∷ [])
     × (map (λ n. damaged driving-bytes 36 (wordBytes 4 n)) (0 ∷ 1 ∷ 5000000 ∷ 5000001 ∷ []) ≡ false ∷ true ∷ true ∷ false ∷ [])
@@ -98,3 +98,21 @@ contacts-soundness :
     × (map (λ n. damaged (recordOf (withDrive underway 0x40 standing)) 44 (n ∷ [])) (0 ∷ 1 ∷ []) ≡ true ∷ true ∷ [])
 unfolding computing-motor damaged fresh-bytes driving-bytes underway wired
 contacts-soundness = (refl, refl, refl, refl, refl)
+
+-- 02 §3: "a held record is sound only under pause, and otherwise as a driving one". Byte 32 of the record that drives CW to +5: under
+-- pause, without it, and byte for byte as one that drives.
+held-bytes : List ℕ
+held-bytes = put driving-bytes 32 (3 ∷ [])
+
+held-soundness :
+    (map (λ n. soundUnder true (put driving-bytes 32 (n ∷ []))) (0 ∷ 1 ∷ 2 ∷ 3 ∷ 4 ∷ 5 ∷ []) ≡ false ∷ true ∷ false ∷ true ∷ false ∷ false ∷ [])
+    × (map (λ n. soundUnder false (put driving-bytes 32 (n ∷ []))) (0 ∷ 1 ∷ 2 ∷ 3 ∷ 4 ∷ 5 ∷ []) ≡ false ∷ true ∷ false ∷ false ∷ false ∷ false ∷ [])
+    × (damaged held-bytes 31 (0x40 ∷ []) ≡ false) × (damaged held-bytes 27 (0 ∷ []) ≡ false) × (damaged held-bytes 44 (0 ∷ []) ≡ false)
+    × (map (λ n. damaged held-bytes 26 (n ∷ [])) (1 ∷ 2 ∷ []) ≡ false ∷ true ∷ [])
+    × (map (λ n. damaged held-bytes 40 (n ∷ [])) (0 ∷ 1 ∷ []) ≡ false ∷ true ∷ [])
+    × (map (λ n. damaged held-bytes 34 (wordBytes 2 n)) (5 ∷ 999 ∷ 1000 ∷ []) ≡ true ∷ true ∷ false ∷ [])
+    × (damaged held-bytes 36 (0 ∷ 0 ∷ []) ≡ false)
+    × (map (λ n. soundRecord (recordOf (withDrive (limited n) 0 (record { going = cw; held = true; kind = 0; fraction = 0; speed = 800; target = origin })))) (0 ∷ 1 ∷ []) ≡ false ∷ true ∷ [])
+    × (map (λ t. soundUnder t fresh-bytes) (true ∷ false ∷ []) ≡ true ∷ true ∷ [])
+unfolding computing-motor damaged held-bytes driving-bytes fresh-bytes underway limited wired
+held-soundness = (refl, refl, refl, refl, refl, refl, refl, refl, refl, refl, refl)

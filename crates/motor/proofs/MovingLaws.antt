@@ -1,19 +1,21 @@
 -- Which motors move. Nothing above opens `moving` but what computes. Assumes nothing.
 use mathlib.Core.Path.{_≡_, refl}
-use mathlib.Core.Bool.{true, false}
+use mathlib.Core.Bool.{true, false, not}
 use Prim.Native.Nat.{ℕ}
 use Rattle.record.specs.declared.Motor.{Motor}
 use Rattle.record.specs.Record.{withPlace, withDrive, withFraction, withSpeedInForce}
+use borrow.Author.Tests.{not-true}
 use Rattle.motor.specs.Sound.{busy, moving}
+use Rattle.motor.proofs.SoundLaws.{and-l, and-r, and-false}
 
 -- What moves is busy, and what is not busy does not move.
 pub moving-busy : (m : Motor) → moving m ≡ true → busy m ≡ true
 unfolding moving
-moving-busy m e = e
+moving-busy m e = and-l (busy m) _ e
 
 pub idle-still : (m : Motor) → busy m ≡ false → moving m ≡ false
 unfolding moving
-idle-still m e = e
+idle-still m e = rw e
 
 -- Whether a motor moves lies in its drive, and not in the speed in force.
 pub moving-drive : (n m : Motor) → n .drive ≡ m .drive → moving n ≡ moving m
@@ -29,7 +31,15 @@ pub carried-moves : (m : Motor) (p e n : ℕ) → moving (withDrive (withPlace m
 unfolding moving
 carried-moves m p e n = refl
 
--- Here what is busy moves: the law that a held drive would end.
-pub busy-moves : (m : Motor) → busy m ≡ true → moving m ≡ true
+-- What is busy moves unless it is held, and what is held does not move.
+pub busy-moves : (m : Motor) → busy m ≡ true → moving m ≡ not (m .drive .held)
 unfolding moving
-busy-moves m e = e
+busy-moves m e = rw e
+
+pub moving-free : (m : Motor) → moving m ≡ true → m .drive .held ≡ false
+unfolding moving
+moving-free m e = not-true _ (and-r (busy m) _ e)
+
+pub held-still : (m : Motor) → m .drive .held ≡ true → moving m ≡ false
+unfolding moving
+held-still m e = rw (e) (and-false (busy m))

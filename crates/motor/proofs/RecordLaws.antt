@@ -10,7 +10,7 @@ use borrow.Author.Tests.{eqb-true}
 use Rattle.digits.specs.Bytes.{AllBytes}
 use Rattle.record.specs.declared.Motor.{Motor}
 use Rattle.record.specs.Record.{motorOf, recordOf, restZero}
-use Rattle.record.proofs.RoundTrip.{FitsRecord, FitsBytes, written-read, read-written, record-length, record-bytes, rest-clear}
+use Rattle.record.proofs.RoundTrip.{FitsRecord, FitsBytes, FitsWay, way-fits, way-below, written-read, read-written, record-length, record-bytes, rest-clear}
 use Rattle.motor.specs.Sound.{busy, soundMotor, soundRecord}
 use Rattle.motor.proofs.SoundLaws.{and-l, and-r, sound-bounds, sound-busy, sound-standing}
 
@@ -27,11 +27,15 @@ pub sound-fits : (m : Motor) → soundMotor m ≡ true → FitsRecord m
 sound-fits m s = let b = sound-bounds m s in let v = speed-in-force m s in omega arith
 
 pub sound-fits-bytes : (m : Motor) → soundMotor m ≡ true → FitsBytes m
-sound-fits-bytes m s = let b = sound-bounds m s in omega arith
+sound-fits-bytes m s = let b = sound-bounds m s in let way = way-below (m .drive) (omega arith) in omega (arith, way)
+
+-- Byte 32 tells the direction of a sound motor and whether it is held: one that stands is not.
+pub sound-way : (m : Motor) → soundMotor m ≡ true → FitsWay (m .drive)
+sound-way m s = way-fits (m .drive) (sound-bounds m s .going) (λ z. rw (sound-standing m s (rw z)))
 
 -- A sound motor that is written and read back is the same motor.
 pub sound-written-read : (m : Motor) → soundMotor m ≡ true → motorOf (recordOf m) ≡ m
-sound-written-read m s = written-read m (sound-fits m s)
+sound-written-read m s = written-read m (sound-fits m s) (sound-way m s)
 
 -- Sound bytes that are read and written back are the same bytes.
 pub sound-read-written : (b : List ℕ) → soundRecord b ≡ true → AllBytes b → recordOf (motorOf b) ≡ b

@@ -1,6 +1,6 @@
 -- Soundness of a motor in its parts, and what follows for numbers. Assumes nothing.
 use mathlib.Core.Path.{_≡_, refl}
-use mathlib.Core.Bool.{Bool, true, false, _&&_, cond, false≢true}
+use mathlib.Core.Bool.{Bool, true, false, _&&_, _||_, cond, false≢true}
 use mathlib.Core.Logic.{_⊎_, inl, inr}
 use Prim.Native.Nat.{ℕ, _≤_}
 use native.Mathlib.Omega.{arith}
@@ -31,6 +31,10 @@ and-true false = refl
 pub and-false : (a : Bool) → (a && false) ≡ false
 and-false true = refl
 and-false false = refl
+
+pub or-true : (a : Bool) → (a || true) ≡ true
+or-true true = refl
+or-true false = refl
 
 -- "every field is in its range", topic by topic
 pub record InRange (m : Motor) : Type 0 where
@@ -95,14 +99,14 @@ pub busy-sound : (m : Motor) → InRange m → UnderWay m → busy m ≡ true �
 busy-sound m r w d = parts-sound m (record { range = r; way = rw d (parts-way m w) })
 
 -- A sound motor that is stopped has no drive, and one with its fields in range that has none is sound.
-no-drive : (g k f v t : ℕ) → g ≡ 0 → k ≡ 0 → f ≡ 0 → v ≡ 0 → t ≡ origin
-    → _≡_ {A = Drive} (record { going = g; kind = k; fraction = f; speed = v; target = t }) standing
-no-drive g k f v t eg ek ef ev et = cc
+no-drive : (g : ℕ) (h : Bool) (k f v t : ℕ) → g ≡ 0 → h ≡ false → k ≡ 0 → f ≡ 0 → v ≡ 0 → t ≡ origin
+    → _≡_ {A = Drive} (record { going = g; held = h; kind = k; fraction = f; speed = v; target = t }) standing
+no-drive g h k f v t eg eh ek ef ev et = cc
 
 at-rest : (d : Drive) → d .going ≡ 0 → atRest d ≡ true → d ≡ standing
 unfolding atRest
 at-rest d g r =
-    no-drive (d .going) (d .kind) (d .fraction) (d .speed) (d .target) g (search (and-l, and-r, eqb-true))
+    no-drive (d .going) (d .held) (d .kind) (d .fraction) (d .speed) (d .target) g (search (and-l, and-r, not-true)) (search (and-l, and-r, eqb-true))
     (search (and-l, and-r, eqb-true)) (search (and-l, and-r, eqb-true)) (search (and-l, and-r, eqb-true))
 
 pub sound-standing : (m : Motor) → soundMotor m ≡ true → busy m ≡ false → m .drive ≡ standing

@@ -13,8 +13,8 @@ use Rattle.digits.specs.Places.{placeOf}
 use Rattle.digits.proofs.WordLaws.{word-part, word-zero, zero-part}
 use Rattle.record.specs.declared.Motor.{Motor}
 use Rattle.record.specs.Record.{motorOf, driveOf, standing}
-use Rattle.motor.specs.Sound.{contactsRight, settingsInRange, endFlagsInRange, driveInRange, inRange, atRest, soundMotor}
-use Rattle.motor.proofs.SoundLaws.{and-l, and-r, and-true}
+use Rattle.motor.specs.Sound.{contactsRight, settingsInRange, endFlagsInRange, driveInRange, inRange, atRest, soundMotor, heldRight}
+use Rattle.motor.proofs.SoundLaws.{and-l, and-r, and-true, or-true}
 use Rattle.motor.proofs.BitLaws.{byte-below}
 
 -- Of a part that is all zero the first word is 0, and what comes after it is all zero.
@@ -42,11 +42,17 @@ standing-sound : (m : Motor) → m .drive ≡ standing → soundMotor m ≡ (set
 unfolding soundMotor inRange driveInRange atRest
 standing-sound m e = rw (e) (rw (and-true, and-true))
 
--- So it is of a record with zeros where a drive would stand.
-pub zeros-sound : (b : List ℕ) → allZero (part b 32 12) ≡ true
-    → soundMotor (motorOf b) ≡ (settingsInRange (motorOf b) && endFlagsInRange (motorOf b .ended) && contactsRight (motorOf b .wiring))
+standing-right : (paused : Bool) (m : Motor) → m .drive ≡ standing → heldRight paused m ≡ true
+standing-right paused m e = rw (e) (or-true paused)
+
+-- So it is of a record with zeros where a drive would stand, whether pause is on or not.
+pub zeros-sound : (paused : Bool) (b : List ℕ) → allZero (part b 32 12) ≡ true
+    → (soundMotor (motorOf b) && heldRight paused (motorOf b))
+    ≡ (settingsInRange (motorOf b) && endFlagsInRange (motorOf b .ended) && contactsRight (motorOf b .wiring))
 unfolding motorOf
-zeros-sound b h = standing-sound (motorOf b) (zeros-still b h)
+zeros-sound paused b h =
+    let none = zeros-still b h in
+    rw (standing-sound (motorOf b) none, standing-right paused (motorOf b) none) (and-true _)
 
 -- Bytes 45 to 47 are zero where byte 44's word is a byte.
 pub one-byte : (b : List ℕ) → length b ≡ 64 → AllBytes b → leb (word (part b 44 4)) 255 ≡ allZero (part b 45 3)

@@ -44,7 +44,8 @@ setupInRange s = leb (s .a) 1 && leb (s .b) 1 && eqb (s .c) 0 && leb (s .d) 2
 abbrev pub endFlagsInRange : ℕ → Bool
 endFlagsInRange e = eqb e 0 || eqb e 0x20 || eqb e 0x40 || eqb e 0x80
 
--- "0 stopped, 1 CW, 2 CCW; kind: 0 scan, 1 to a target", "fraction 0..999", and a target that is a position
+-- "0 stopped, 1 CW, 2 CCW; kind: 0 scan, 1 to a target", "fraction 0..999", and a target that is a position; the direction is that
+-- of a held drive too
 unfoldable pub driveInRange : Drive → Bool
 driveInRange d = leb (d .going) 2 && leb (d .kind) 1 && leb (d .fraction) 999 && isPosition (d .target)
 
@@ -58,9 +59,9 @@ settingsInRange m =
 unfoldable pub inRange : Motor → Bool
 inRange m = settingsInRange m && endFlagsInRange (m .ended) && contactsRight (m .wiring) && driveInRange (m .drive)
 
--- "a stopped record has zeros in 33..43"
+-- "a stopped record has zeros in 33..43", and nothing of it is held
 unfoldable pub atRest : Drive → Bool
-atRest d = eqb (d .kind) 0 && eqb (d .fraction) 0 && eqb (d .speed) 0 && eqb (d .target) origin
+atRest d = not (d .held) && eqb (d .kind) 0 && eqb (d .fraction) 0 && eqb (d .speed) 0 && eqb (d .target) origin
 
 -- "for a target, a target strictly ahead (for a scan, target field 0)"
 unfoldable pub aimRight : Motor → Bool
@@ -70,7 +71,8 @@ aimRight m =
     (eqb (m .drive .target) origin)
 
 -- "a driving record has end flags 0, A = 1, at least one pulse of room (below), no active enabled switch in its direction,
--- and" the aim above; its speed in force is a speed. 02 §2: "a driving record has 1", in byte 44
+-- and" the aim above; its speed in force is a speed. 02 §2: "a driving record has 1", in byte 44; 02 §3: a held record is sound
+-- "otherwise as a driving one"
 unfoldable pub underWay : Motor → Bool
 underWay m =
     eqb (m .ended) 0 && eqb (m .setup .a) 1 && eqb (m .wiring .read) 1 && isSpeed (m .drive .speed)
@@ -80,9 +82,9 @@ underWay m =
 abbrev pub busy : Motor → Bool
 busy m = not (eqb (m .drive .going) 0)
 
--- it moves, "1 CW, 2 CCW": it gets pulses; here every busy motor does
+-- it moves, "1 CW, 2 CCW": it gets pulses; 02 §3: a held channel "gets no pulses"
 unfoldable pub moving : Motor → Bool
-moving m = busy m
+moving m = busy m && not (m .drive .held)
 
 -- a motor is sound: its fields are in range, and it keeps the rules for a stopped or for a driving record
 unfoldable pub soundMotor : Motor → Bool
@@ -91,3 +93,11 @@ soundMotor m = inRange m && cond (busy m) (underWay m) (atRest (m .drive))
 -- a record is sound: 64 bytes, a sound motor in them, and "every byte given as zero is zero"
 unfoldable pub soundRecord : List ℕ → Bool
 soundRecord b = eqb (length b) 64 && soundMotor (motorOf b) && restZero b
+
+-- 02 §3: "a held record is sound only under pause"; whether pause is on is for the table to say
+abbrev pub heldRight : Bool → Motor → Bool
+heldRight paused m = paused || not (m .drive .held)
+
+-- a record is sound in a table: by itself, and with what the table says of pause
+unfoldable pub soundUnder : Bool → List ℕ → Bool
+soundUnder paused b = soundRecord b && heldRight paused (motorOf b)

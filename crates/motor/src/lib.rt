@@ -31,7 +31,7 @@ ghost use Rattle.record.specs.Record.{motorOf, restZero};
 ghost use Rattle.motor.specs.Switches.{switchOf, unread, active, blocked, edge, room};
 ghost use Rattle.motor.specs.Sound.{isSpeed, limitsInRange, wiringInRange, contactsRight, setupInRange, settingsInRange};
 ghost use Rattle.motor.specs.Sound.{endFlagsInRange, driveInRange, atRest, underWay};
-ghost use Rattle.motor.specs.Sound.{busy, moving, soundMotor, soundRecord};
+ghost use Rattle.motor.specs.Sound.{busy, moving, soundMotor, heldRight, soundUnder};
 
 // The switch that a direction runs into, by its bit: 0 CW, 1 CCW.
 fn switch_of(going: u8) -> u8
@@ -220,7 +220,7 @@ fn drive_in_range(d: Drive) -> bool
 fn at_rest(d: Drive) -> bool
     ensures { λ r. ⌜ r ≡ atRest d ⌝ }
 {
-    (d.kind == 0) & (d.fraction == 0) & (d.speed == 0) & (d.target == ORIGIN)
+    !d.held & (d.kind == 0) & (d.fraction == 0) & (d.speed == 0) & (d.target == ORIGIN)
 }
 
 // Whether a target lies strictly ahead in a direction, or a scan has none.
@@ -273,11 +273,11 @@ pub fn is_busy(m: Motor) -> bool
     !(m.drive.going == 0)
 }
 
-// Whether a motor moves: a tick may give it pulses.
+// Whether a motor moves: a tick may give it pulses, as it may not while the drive is held.
 pub fn is_moving(m: Motor) -> bool
     ensures { λ r. ⌜ r ≡ moving m ⌝ }
 {
-    is_busy(m)
+    is_busy(m) & !m.drive.held
 }
 
 // Whether the drive of a motor whose other fields are sound is sound.
@@ -291,6 +291,24 @@ fn drive_sound(m: Motor) -> bool
         } else {
             at_rest(drive)
         }
+    } else {
+        false
+    }
+}
+
+// Whether a motor is not held, or may be, since pause is on.
+fn held_right(paused: bool, m: Motor) -> bool
+    ensures { λ r. ⌜ r ≡ heldRight paused m ⌝ }
+{
+    paused | !m.drive.held
+}
+
+// Whether the drive is sound in a table, where what is held is held under pause.
+fn drive_allowed(paused: bool, m: Motor) -> bool
+    ensures { λ r. ⌜ r ≡ (driveInRange (m .drive) && cond (busy m) (underWay m) (atRest (m .drive)) && heldRight paused m) ⌝ }
+{
+    if held_right(paused, m) {
+        drive_sound(m)
     } else {
         false
     }
@@ -324,31 +342,39 @@ fn rest_zero(b: &[u8]) -> bool
     }
 }
 
-// Whether 64 bytes hold a sound motor. Most motors stand, and so have no drive; then nothing of one is judged.
-fn motor_sound(b: &[u8]) -> bool
+// Whether 64 bytes hold a motor that is sound in a table. Most motors stand, and so have no drive; then nothing of one is judged.
+fn motor_sound(paused: bool, b: &[u8]) -> bool
     requires { ⌜ length (now b) ≡ 64 ⌝ }
-    ensures { λ r. ⌜ r ≡ soundMotor (motorOf (now (b .entry))) ⌝ }
+    ensures { λ r. ⌜ r ≡ (soundMotor (motorOf (now (b .entry))) && heldRight paused (motorOf (now (b .entry)))) ⌝ }
 {
     if drive_zero(b) {
         settings_sound(b)
     } else if settings_sound(b) {
-        drive_sound(read_motor(b))
+        drive_allowed(paused, read_motor(b))
     } else {
         false
     }
 }
 
-// Whether 64 bytes are a sound record. The rest is the cheaper test, and so the first.
-fn sound_bytes(b: &[u8]) -> bool
+// Whether 64 bytes are a sound record of a table. The rest is the cheaper test, and so the first.
+fn sound_bytes(paused: bool, b: &[u8]) -> bool
     requires { ⌜ length (now b) ≡ 64 ⌝ }
-    ensures { λ r. ⌜ r ≡ soundRecord (now (b .entry)) ⌝ }
+    ensures { λ r. ⌜ r ≡ soundUnder paused (now (b .entry)) ⌝ }
 {
-    if rest_zero(b) { motor_sound(b) } else { false }
+    if rest_zero(b) {
+        motor_sound(paused, b)
+    } else {
+        false
+    }
 }
 
-// Whether bytes are a sound record: bytes of any number and any value are judged.
-pub fn sound_record(b: &[u8]) -> bool
-    ensures { λ r. ⌜ r ≡ soundRecord (now (b .entry)) ⌝ }
+// Whether bytes are a sound record of a table, where pause is on or off: bytes of any number and any value are judged.
+pub fn sound_record(paused: bool, b: &[u8]) -> bool
+    ensures { λ r. ⌜ r ≡ soundUnder paused (now (b .entry)) ⌝ }
 {
-    if b.len() == 64 { sound_bytes(b) } else { false }
+    if b.len() == 64 {
+        sound_bytes(paused, b)
+    } else {
+        false
+    }
 }

@@ -5,23 +5,20 @@ use mathlib.Core.Bool.{true, false, false≢true}
 use Prim.Native.Nat.{ℕ, zero, suc, _+_, _*_, _-_, _/_, _%_, _≤_, _<_}
 use native.Mathlib.Nat.{add-zero, zero-add, suc-add, zero-mul, le-div-iff-mul-le, lt-div-mul-add}
 use native.Mathlib.Omega.{arith}
-use borrow.Author.Tests.{leb-true, ne-eqb, not-true}
-use Rattle.digits.specs.Places.{isPosition, moved, ahead}
+use borrow.Author.Tests.{leb-true}
+use Rattle.digits.specs.Places.{moved}
 use Rattle.record.specs.declared.Motor.{Motor}
 use Rattle.record.specs.Record.{withPlace, withDrive, withFraction}
 use Rattle.motor.specs.Switches.{edge, room}
 use Rattle.motor.specs.Sound.{aimRight, busy, moving, soundMotor}
-use Rattle.motor.proofs.MovingLaws.{moving-busy, busy-moves, carried-moves}
-use Rattle.motor.proofs.SoundLaws.{and-r, sound-busy, sound-bounds}
+use Rattle.motor.proofs.MovingLaws.{moving-busy, carried-moves}
+use Rattle.motor.proofs.SoundLaws.{sound-busy, sound-bounds}
 use Rattle.motor.proofs.RoomLaws.{moved-none, moved-twice, ahead-moved, moved-ahead, room-moved}
 use Rattle.pulses.specs.declared.Ticked.{Ticked}
-use Rattle.drive.specs.declared.Course.the-variants.{To}
-use Rattle.drive.specs.declared.Verdict.the-variants.{Done}
-use Rattle.drive.specs.Drives.{selectedSpeed, towards, judgeStart, wellAimed, started, endedWith}
+use Rattle.drive.specs.Drives.{endedWith}
 use Rattle.pulses.specs.Ticks.{tickSpeed, rest, toTarget, distanceLeft, roomLeft, given, tickMotor, ticks, roundedUp}
 use Rattle.pulses.proofs.Laws.{nothing-rounded, carried-below, given-due, speed-in-force, stopped-given-none}
 use Rattle.pulses.proofs.TickSound.{tick-sound}
-use Rattle.drive.proofs.KeptSound.{towards-ahead, started-sound}
 use Rattle.pulses.proofs.TickLaws.{Way, rests, arrives, ends, goes, way, goes-due, reached-all, reached-not, room-all}
 
 -- None is no change, one more is a tick of what they left, and j after k are j + k.
@@ -225,22 +222,3 @@ module _ (m : Motor) (s : soundMotor m ≡ true) (d : moving m ≡ true) (t : to
       (k : ℕ) → k ≡ roundedUp (distanceLeft m * 1000) (m .drive .speed)
       → (busy (ticks k m) ≡ false) × (ticks k m .place ≡ m .drive .target) × (ticks k m .ended ≡ 0)
   ends-stopped k e = rw (e, last-tick) (refl, refl, refl)
-
--- The same of a drive from its start on: an accepted start of a sound motor to a place at distance D within room, at the
--- selected speed.
-module _ (m : Motor) (p : ℕ) (s : soundMotor m ≡ true) (h : judgeStart m (To p) ≡ Done) (a : wellAimed m (To p) ≡ true) (w : ahead (towards m p) (m .place) p ≤ room (towards m p) m) where
-  started-drives : moving (started m (To p)) ≡ true
-  unfolding started
-  started-drives =
-      let t = towards-ahead m p (not-true _ (and-r (isPosition p) _ a)) in
-      busy-moves (started m (To p)) (rw (ne-eqb (towards m p) 0 (omega arith)))
-
-  pub started-drives-before :
-      (k : ℕ) → k < roundedUp (ahead (towards m p) (m .place) p * 1000) (selectedSpeed m) → busy (ticks k (started m (To p))) ≡ true
-  unfolding started distanceLeft room edge
-  started-drives-before = drives-before (started m (To p)) (started-sound m (To p) s h a) started-drives refl refl w
-
-  pub started-last-tick :
-      ticks (roundedUp (ahead (towards m p) (m .place) p * 1000) (selectedSpeed m)) (started m (To p)) ≡ endedWith 0 (withPlace m p)
-  unfolding started distanceLeft room edge
-  started-last-tick = last-tick (started m (To p)) (started-sound m (To p) s h a) started-drives refl refl w

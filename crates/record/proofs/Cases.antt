@@ -1,6 +1,7 @@
 -- The record computed on cases. Each list is one statement, and its proof is the computation.
 use mathlib.Core.Path.{_≡_, refl}
 use mathlib.Core.List.{List, [], _∷_}
+use mathlib.Core.Bool.{false}
 use Prim.Native.Nat.{ℕ, _-_}
 use lib.ListN.{length, replicate}
 use Rattle.digits.specs.Bytes.{part}
@@ -13,7 +14,7 @@ use Rattle.record.specs.Computing.{computing-record}
 underway : Motor
 underway =
     withDrive (withWiring freshMotor (record { setls = 0b01110000; contacts = 1; read = 1 })) 0
-    (record { going = ccw; kind = 1; fraction = 0; speed = 800; target = origin - 5 })
+    (record { going = ccw; held = false; kind = 1; fraction = 0; speed = 800; target = origin - 5 })
 
 -- a fresh record's bytes, and those of a record that drives
 fresh-bytes : List ℕ

@@ -2,13 +2,15 @@
 -- Assumes nothing.
 use mathlib.Core.Path.{_≡_, refl, sym, ap, _∙_}
 use mathlib.Core.List.{List, [], _∷_, _++_}
-use mathlib.Core.Bool.{true}
+use mathlib.Core.Bool.{Bool, true, false, cond, false≢true}
 use Prim.Native.Nat.{ℕ, _+_, _≤_, _<_}
 use native.Mathlib.Omega.{arith}
 use lib.ListN.{length, getD, replicate}
+use lib.Dec.{eqb}
+use borrow.Author.Tests.{eqb-true, eqb-false, ne-eqb}
 use Rattle.digits.specs.Bytes.{AllBytes, part, joined, allZero}
 use Rattle.digits.specs.Words.{word, wordBytes}
-use Rattle.digits.specs.Places.{wordOf}
+use Rattle.digits.specs.Places.{wordOf, cw, ccw}
 use Rattle.digits.proofs.PartLaws.{append-bytes, cons-bytes, none-bytes, zeros-bytes, part-length, part-add, part-bytes, part-one, zero-bytes, part-whole, cut-joined}
 use Rattle.digits.proofs.WordLaws.{byte-word, word-bytes, bytes-word, word-below, word-bytes-bytes}
 use Rattle.digits.proofs.Signed.{place-bytes, word-place}
@@ -16,7 +18,7 @@ use Rattle.record.specs.declared.Limits.{Limits}
 use Rattle.record.specs.declared.Speeds.{Speeds}
 use Rattle.record.specs.declared.Drive.{Drive}
 use Rattle.record.specs.declared.Motor.{Motor}
-use Rattle.record.specs.Record.{byteAt, longAt, placeAt, limitsOf, speedsOf, wiringOf, setupOf, driveOf, motorOf, placeBytes, limitBytes, speedBytes, wiringBytes, setupBytes, settingBytes, goingByte, driveBytes, restBytes, restZero, recordOf, standing}
+use Rattle.record.specs.Record.{byteAt, longAt, placeAt, limitsOf, speedsOf, wiringOf, setupOf, driveOf, motorOf, placeBytes, limitBytes, speedBytes, wiringBytes, setupBytes, settingBytes, goingOf, heldOf, goingByte, driveBytes, restBytes, restZero, recordOf, standing}
 
 -- every number of a motor fits the bytes that it is written in, as the types of the code have it
 pub record FitsRecord (m : Motor) : Type 0 where
@@ -30,13 +32,31 @@ pub record FitsRecord (m : Motor) : Type 0 where
   pub speed : m .drive .speed < 4294967296
   pub target : m .drive .target < 4294967296
 
+-- what byte 32 tells of a drive is its direction and whether it is held, as it is of a drive that has a direction where it is held
+pub record FitsWay (d : Drive) : Type 0 where
+  pub going : goingOf (goingByte d) ≡ d .going
+  pub held : heldOf (goingByte d) ≡ d .held
+
+pub way-fits : (d : Drive) → d .going ≤ 2 → (d .going ≡ 0 → d .held ≡ false) → FitsWay d
+way-fits d below still = go (d .held) refl
+  where
+    go : (t : Bool) → d .held ≡ t → FitsWay d
+    go false e = let three = ne-eqb (d .going) 3 (omega arith) in let four = ne-eqb (d .going) 4 (omega arith) in record { going = rw (e, three, four); held = rw (e, three, four) }
+    go true e = way (eqb (d .going) cw) refl
+      where
+        way : (t : Bool) → eqb (d .going) cw ≡ t → FitsWay d
+        way true w = let is = eqb-true (d .going) cw w in record { going = rw (e, is); held = rw (e, is) }
+        way false w =
+            let some : (d .going ≡ 0) → ⊥ = λ z. false≢true (sym (still z) ∙ e) in
+            let is : d .going ≡ ccw = omega (arith, below, some, eqb-false (d .going) cw w) in record { going = rw (e, is); held = rw (e, is) }
+
 -- Written and read back is the same motor.
-pub written-read : (m : Motor) → FitsRecord m → motorOf (recordOf m) ≡ m
+pub written-read : (m : Motor) → FitsRecord m → FitsWay (m .drive) → motorOf (recordOf m) ≡ m
 unfolding motorOf recordOf settingBytes joined part wordBytes
-written-read m f =
+written-read m f w =
     rw (place-bytes (m .place) (f .place), place-bytes (m .limits .cw) (f .cw), place-bytes (m .limits .ccw) (f .ccw), place-bytes (m .drive .target) (f .target))
     (rw (word-bytes 4 (m .speeds .high) (f .high), word-bytes 4 (m .speeds .middle) (f .middle), word-bytes 4 (m .speeds .low) (f .low), word-bytes 4 (m .drive .speed) (f .speed), word-bytes 2 (m .drive .fraction) (f .fraction))
-    (simp byte-word))
+    (simp (byte-word, w .going, w .held)))
 
 -- A record has 64 bytes.
 pub record-length : (m : Motor) → length (recordOf m) ≡ 64
@@ -70,6 +90,15 @@ pub record FitsBytes (m : Motor) : Type 0 where
   pub ended : m .ended < 256
   pub going : goingByte (m .drive) < 256
   pub kind : m .drive .kind < 256
+
+-- Byte 32 is a byte where the direction is.
+pub way-below : (d : Drive) → d .going < 256 → goingByte d < 256
+way-below d h = go (d .held) (eqb (d .going) cw)
+  where
+    go : (t u : Bool) → cond t (cond u 3 4) (d .going) < 256
+    go true true = omega arith
+    go true false = omega arith
+    go false u = h
 
 limit-bytes : (l : Limits) → AllBytes (limitBytes l)
 unfolding joined
@@ -132,10 +161,22 @@ module _ (b : List ℕ) (whole : length b ≡ 64) (bytes : AllBytes b) where
   unfolding settingBytes motorOf
   settings-back = rw (place-back 0 (omega arith), limits-back, speeds-back, wiring-back, setup-back) (cut-joined (4 ∷ 8 ∷ 13 ∷ 2 ∷ 4 ∷ []) b 0)
 
+  -- Byte 32 is the byte that its direction and its hold make.
+  way-back : goingByte (driveOf b) ≡ byteAt b 32
+  way-back = go (eqb (byteAt b 32) 3) refl
+    where
+      go : (t : Bool) → eqb (byteAt b 32) 3 ≡ t → goingByte (driveOf b) ≡ byteAt b 32
+      go true e = rw (eqb-true (byteAt b 32) 3 e)
+      go false e = four (eqb (byteAt b 32) 4) refl
+        where
+          four : (t : Bool) → eqb (byteAt b 32) 4 ≡ t → goingByte (driveOf b) ≡ byteAt b 32
+          four true f = rw (eqb-true (byteAt b 32) 4 f)
+          four false f = rw (e, f)
+
   drive-back : driveBytes (driveOf b) ≡ part b 32 12
   unfolding joined
   drive-back =
-      rw (word-back 34 2 (omega arith), word-back 36 4 (omega arith), place-back 40 (omega arith), cut-joined (2 ∷ 4 ∷ 4 ∷ []) b 34, cons-back 33 10 (omega arith))
+      rw (way-back, word-back 34 2 (omega arith), word-back 36 4 (omega arith), place-back 40 (omega arith), cut-joined (2 ∷ 4 ∷ 4 ∷ []) b 34, cons-back 33 10 (omega arith))
       (cons-back 32 11 (omega arith))
 
   rest-back : restZero b ≡ true → restBytes (motorOf b) ≡ part b 44 20

@@ -1,11 +1,12 @@
 -- Document 01, "The table": one record of 64 bytes, read out and written back, and the record of a fresh table.
 use Prim.Native.Nat.{ℕ, _+_, _-_}
 use mathlib.Core.List.{List, [], _∷_}
-use mathlib.Core.Bool.{Bool}
+use mathlib.Core.Bool.{Bool, false, _||_, cond}
 use lib.ListN.{replicate}
+use lib.Dec.{eqb}
 use Rattle.digits.specs.Bytes.{part, joined, allZero}
 use Rattle.digits.specs.Words.{word, wordBytes}
-use Rattle.digits.specs.Places.{origin, placeOf, wordOf}
+use Rattle.digits.specs.Places.{origin, placeOf, wordOf, cw, ccw}
 use Rattle.record.specs.declared.Limits.{Limits}
 use Rattle.record.specs.declared.Speeds.{Speeds}
 use Rattle.record.specs.declared.Wiring.{Wiring}
@@ -46,18 +47,29 @@ wiringOf b = record { setls = byteAt b 25; contacts = byteAt b 26; read = byteAt
 abbrev pub setupOf : List ℕ → Setup
 setupOf b = record { a = byteAt b 27; b = byteAt b 28; c = byteAt b 29; d = byteAt b 30 }
 
--- the direction that byte 32 tells: "0 stopped, 1 CW, 2 CCW"; and the byte that tells it of a drive
+-- the direction that byte 32 tells: "0 stopped, 1 CW, 2 CCW"; 02 §3: "a held drive: byte 32 is 3 (CW) or 4 (CCW)"
 abbrev pub goingOf : ℕ → ℕ
-goingOf b = b
+goingOf b = cond (eqb b 3) cw (cond (eqb b 4) ccw b)
 
+-- whether it tells a held drive
+abbrev pub heldOf : ℕ → Bool
+heldOf b = eqb b 3 || eqb b 4
+
+-- and the byte that tells both of a drive
 abbrev pub goingByte : Drive → ℕ
-goingByte d = d .going
+goingByte d = cond (d .held) (cond (eqb (d .going) cw) 3 4) (d .going)
 
 -- 32, 33 "0 stopped, 1 CW, 2 CCW; kind: 0 scan, 1 to a target"; 34-35, 36-39, 40-43 "fraction 0..999, speed in force, target"
 abbrev pub driveOf : List ℕ → Drive
 driveOf b =
-    record
-    { going = goingOf (byteAt b 32); kind = byteAt b 33; fraction = shortAt b 34; speed = longAt b 36; target = placeAt b 40 }
+    record {
+      going = goingOf (byteAt b 32);
+      held = heldOf (byteAt b 32);
+      kind = byteAt b 33;
+      fraction = shortAt b 34;
+      speed = longAt b 36;
+      target = placeAt b 40;
+    }
 
 -- the motor that a record holds: all that the table of "Record bytes" lists; 0-3 "position", 31 "end flags: 80h ESEND, 40h
 -- SSEND, 20h LSEND, or 0"
@@ -143,15 +155,19 @@ withDrive m e d = record { place = m .place; limits = m .limits; speeds = m .spe
 
 -- the drive with another fraction carried
 abbrev pub withFraction : Drive → ℕ → Drive
-withFraction d n = record { going = d .going; kind = d .kind; fraction = n; speed = d .speed; target = d .target }
+withFraction d n = record { going = d .going; held = d .held; kind = d .kind; fraction = n; speed = d .speed; target = d .target }
 
 -- the drive with another speed in force
 abbrev pub withSpeedInForce : Drive → ℕ → Drive
-withSpeedInForce d v = record { going = d .going; kind = d .kind; fraction = d .fraction; speed = v; target = d .target }
+withSpeedInForce d v = record { going = d .going; held = d .held; kind = d .kind; fraction = d .fraction; speed = v; target = d .target }
+
+-- the drive held no more
+abbrev pub letGo : Drive → Drive
+letGo d = record { going = d .going; held = false; kind = d .kind; fraction = d .fraction; speed = d .speed; target = d .target }
 
 -- "a stopped record has zeros in 33..43": no drive. Target field 0 is the place of position 0.
 abbrev pub standing : Drive
-standing = record { going = 0; kind = 0; fraction = 0; speed = 0; target = origin }
+standing = record { going = 0; held = false; kind = 0; fraction = 0; speed = 0; target = origin }
 
 -- "Fresh: .. position 0, limits +1,000,000 and -1,000,000 (003), HSPD 1000, MSPD 800, LSPD 50, selected M, SETLS 01110000,
 -- SETMT 1100, contacts all open, stopped." 02 §2: they are unknown

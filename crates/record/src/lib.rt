@@ -2,6 +2,8 @@
 // motor and back. A position, a limit and a target are kept as places (crate digits): the number plus 2,147,483,648. What
 // stands where is said in specs/.
 
+use digits::places::CCW;
+use digits::places::CW;
 use digits::places::ORIGIN;
 use digits::places::place_of;
 use digits::places::word_of;
@@ -16,9 +18,9 @@ ghost use mathlib.Core.List.{[], _∷_};
 ghost use Prim.Native.Nat.{_+_, _≤_};
 ghost use lib.ListN.{length};
 ghost use Rattle.digits.specs.Bytes.{put};
-ghost use Rattle.record.specs.Record.{placeAt, limitsOf, speedsOf, wiringOf, setupOf, driveOf, motorOf};
+ghost use Rattle.record.specs.Record.{placeAt, limitsOf, speedsOf, wiringOf, setupOf, heldOf, goingOf, driveOf, motorOf};
 ghost use Rattle.record.specs.Record.{placeBytes, limitBytes, speedBytes, wiringBytes, setupBytes, settingBytes};
-ghost use Rattle.record.specs.Record.{driveBytes, restBytes, recordOf, standing};
+ghost use Rattle.record.specs.Record.{goingByte, driveBytes, restBytes, recordOf, standing};
 ghost use Rattle.record.specs.Progress.{flagsAndDrive, progressed};
 
 // The digital limits.
@@ -51,10 +53,11 @@ pub struct Setup {
     pub d: u8,
 }
 
-// The drive: going is 0 stopped, 1 CW, 2 CCW; kind is 0 a scan, 1 to a target. Stopped, all of it is zero, and the
-// target is the place of position 0.
+// The drive: going is 0 stopped, 1 CW, 2 CCW; held is whether it waits for its release; kind is 0 a scan, 1 to a target.
+// Stopped, all of it is zero, and the target is the place of position 0.
 pub struct Drive {
     pub going: u8,
+    pub held: bool,
     pub kind: u8,
     pub fraction: u16,
     pub speed: u32,
@@ -78,6 +81,7 @@ pub fn no_drive() -> Drive
 {
     Drive {
         going: 0,
+        held: false,
         kind: 0,
         fraction: 0,
         speed: 0,
@@ -139,12 +143,44 @@ fn read_setup(b: &[u8]) -> Setup
     }
 }
 
+// What byte 32 tells: 1 and 2 are drives that go, 3 and 4 the same held.
+fn is_held(n: u8) -> bool
+    ensures { λ r. ⌜ r ≡ heldOf n ⌝ }
+{
+    (n == 3) | (n == 4)
+}
+
+fn going_of(n: u8) -> u8
+    ensures { λ r. ⌜ r ≡ goingOf n ⌝ }
+{
+    if n == 3 {
+        CW
+    } else if n == 4 {
+        CCW
+    } else {
+        n
+    }
+}
+
+// The byte that tells it of a drive.
+fn going_byte(d: Drive) -> u8
+    ensures { λ r. ⌜ r ≡ goingByte d ⌝ }
+{
+    if d.held {
+        if d.going == CW { 3 } else { 4 }
+    } else {
+        d.going
+    }
+}
+
 fn read_drive(b: &[u8]) -> Drive
     requires { ⌜ length (now b) ≡ 64 ⌝ }
     ensures { λ r. ⌜ r ≡ driveOf (now (b .entry)) ⌝ }
 {
+    let way = byte_at(b, 32);
     Drive {
-        going: byte_at(b, 32),
+        going: going_of(way),
+        held: is_held(way),
         kind: byte_at(b, 33),
         fraction: short_at(b, 34),
         speed: long_at(b, 36),
@@ -240,7 +276,7 @@ fn put_drive(b: &mut [u8], d: Drive)
     requires { ⌜ length (now b) ≡ 64 ⌝ }
     ensures { λ r. ⌜ now (b .exit) ≡ put (now (b .entry)) 32 (driveBytes d) ⌝ }
 {
-    put_byte(b, 32, d.going);
+    put_byte(b, 32, going_byte(d));
     put_byte(b, 33, d.kind);
     put_short(b, 34, d.fraction);
     put_long(b, 36, d.speed);

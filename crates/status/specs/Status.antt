@@ -23,19 +23,19 @@ flagIf test n = cond test n 0
 unfoldable pub switchBits : Wiring → ℕ
 switchBits w = cond (unread w) 0 (flagIf (active 0 w) 1 + flagIf (active 1 w) 2 + flagIf (active 2 w) 4)
 
--- V: these, and "bit 3 set when stopped with B = 0"
+-- V: these, and "bit 3 set when stopped with B = 0"; 02 §3: held, "V's bit 3 clear"
 unfoldable pub statusV : Motor → ℕ
 statusV m = switchBits (m .wiring) + flagIf (not (busy m) && eqb (m .setup .b) 0) 8
 
--- "HH: the end flags, or 03 while driving (000)"
+-- "HH: the end flags, or 03 while driving (000)"; 02 §3: of a held drive 01
 unfoldable pub statusHH : Motor → ℕ
-statusHH m = cond (moving m) 3 (m .ended)
+statusHH m = cond (moving m) 3 (cond (busy m) 1 (m .ended))
 
 -- "R or L": R is remote mode, L local
 unfoldable pub modeLetter : ℕ → ℕ
 modeLetter k = cond (eqb k 0) (code "L") (code "R")
 
--- "P, N or S": moving CW, moving CCW, not moving
+-- "P, N or S": moving CW, moving CCW, not moving; 02 §3: held, "STS shows S"
 unfoldable pub goingLetter : Motor → ℕ
 goingLetter m = cond (moving m) (cond (eqb (m .drive .going) cw) (code "P") (code "N")) (code "S")
 

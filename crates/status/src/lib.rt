@@ -51,7 +51,13 @@ fn status_v(m: Motor) -> u8
 fn status_hh(m: Motor) -> u8
     ensures { λ r. ⌜ r ≡ statusHH m ⌝ }
 {
-    if is_moving(m) { 3 } else { m.ended }
+    if is_moving(m) {
+        3
+    } else if is_busy(m) {
+        1
+    } else {
+        m.ended
+    }
 }
 
 fn mode_letter(k: u8) -> u8

@@ -8,7 +8,7 @@ use Rattle.digits.specs.Bytes.{part, put}
 use Rattle.digits.specs.Places.{origin, cw}
 use Rattle.record.specs.declared.Motor.{Motor}
 use Rattle.record.specs.Record.{recordOf, freshMotor, withWiring, withDrive}
-use Rattle.table.specs.Layout.{headOf, withHead, withMode, withReply, withErrors, recordAt, motorAt, withMotor, withMotors, freshTable}
+use Rattle.table.specs.Layout.{headOf, withHead, withMode, withReply, withErrors, withPause, recordAt, motorAt, withMotor, withMotors, freshTable}
 use Rattle.table.specs.Sound.{soundTable}
 use Rattle.table.specs.Computing.{computing-table}
 
@@ -23,7 +23,7 @@ fresh = (refl, refl, refl, refl, refl)
 scanning : Motor
 scanning =
     withDrive (withWiring freshMotor (record { setls = 0b01110000; contacts = 0; read = 1 })) 0
-    (record { going = cw; kind = 0; fraction = 0; speed = 800; target = origin })
+    (record { going = cw; held = false; kind = 0; fraction = 0; speed = 800; target = origin })
 
 away : List ℕ
 away = withMotor freshTable 11 scanning
@@ -37,10 +37,10 @@ placed :
 unfolding computing-table away scanning
 placed = (refl, refl, refl, refl, refl, refl, refl, refl, refl, refl, refl)
 
--- the head's three fields stand at bytes 0, 1 and 2, and are written there
+-- the head's four fields stand at bytes 0 to 3, and are written there
 head :
-    (headOf (1 ∷ 2 ∷ 3 ∷ []) ≡ record { mode = 1; reply = 2; errors = 3 })
-    × (withHead (0 ∷ 0 ∷ 0 ∷ 9 ∷ []) (withErrors (withReply (withMode (headOf (0 ∷ 0 ∷ 0 ∷ [])) 1) 1) 15) ≡ 1 ∷ 1 ∷ 15 ∷ 9 ∷ [])
+    (headOf (1 ∷ 2 ∷ 3 ∷ 4 ∷ []) ≡ record { mode = 1; reply = 2; errors = 3; pause = 4 })
+    × (withHead (0 ∷ 0 ∷ 0 ∷ 0 ∷ 9 ∷ []) (withPause (withErrors (withReply (withMode (headOf (0 ∷ 0 ∷ 0 ∷ 0 ∷ [])) 1) 1) 15) 1) ≡ 1 ∷ 1 ∷ 15 ∷ 1 ∷ 9 ∷ [])
 unfolding computing-table
 head = (refl, refl)
 
@@ -49,9 +49,19 @@ head = (refl, refl)
 unsound :
     (map (λ t. soundTable t) ([] ∷ drop 1 freshTable ∷ (freshTable ++ (0 ∷ [])) ∷ replicate 1088 255 ∷ replicate 1088 0 ∷ [])
     ≡ false ∷ false ∷ false ∷ false ∷ false ∷ [])
-    × (map (λ at. soundTable (put freshTable at (1 ∷ []))) (0 ∷ 1 ∷ 2 ∷ 3 ∷ 63 ∷ 108 ∷ 109 ∷ 127 ∷ 1068 ∷ 1069 ∷ 1087 ∷ [])
-    ≡ true ∷ true ∷ true ∷ false ∷ false ∷ true ∷ false ∷ false ∷ true ∷ false ∷ false ∷ [])
-    × (map (λ b. soundTable (put freshTable 0 b)) ((2 ∷ []) ∷ (1 ∷ 2 ∷ []) ∷ (1 ∷ 1 ∷ 15 ∷ []) ∷ (1 ∷ 1 ∷ 16 ∷ []) ∷ [])
-    ≡ false ∷ false ∷ true ∷ false ∷ [])
+    × (map (λ at. soundTable (put freshTable at (1 ∷ []))) (0 ∷ 1 ∷ 2 ∷ 3 ∷ 4 ∷ 63 ∷ 108 ∷ 109 ∷ 127 ∷ 1068 ∷ 1069 ∷ 1087 ∷ [])
+    ≡ true ∷ true ∷ true ∷ true ∷ false ∷ false ∷ true ∷ false ∷ false ∷ true ∷ false ∷ false ∷ [])
+    × (map (λ b. soundTable (put freshTable 0 b)) ((2 ∷ []) ∷ (1 ∷ 2 ∷ []) ∷ (1 ∷ 1 ∷ 15 ∷ []) ∷ (1 ∷ 1 ∷ 16 ∷ []) ∷ (0 ∷ 0 ∷ 0 ∷ 2 ∷ []) ∷ [])
+    ≡ false ∷ false ∷ true ∷ false ∷ false ∷ [])
 unfolding computing-table
 unsound = (refl, refl, refl)
+
+-- 02 §3: "a held record is sound only under pause": channel 11 held, and scanning, with pause off and on
+holding : ℕ → ℕ → List ℕ
+holding way pause = put (put away 800 (way ∷ [])) 3 (pause ∷ [])
+
+held-under-pause :
+    (map (λ way. soundTable (holding way 0)) (1 ∷ 2 ∷ 3 ∷ 4 ∷ 5 ∷ []) ≡ true ∷ true ∷ false ∷ false ∷ false ∷ [])
+    × (map (λ way. soundTable (holding way 1)) (1 ∷ 2 ∷ 3 ∷ 4 ∷ 5 ∷ []) ≡ true ∷ true ∷ true ∷ true ∷ false ∷ [])
+unfolding computing-table holding away scanning
+held-under-pause = (refl, refl)

@@ -11,18 +11,19 @@ use borrow.Author.Tests.{leb-true}
 use Rattle.digits.specs.Bytes.{part, put, allZero}
 use Rattle.digits.proofs.WordLaws.{byte-word}
 use Rattle.digits.proofs.PutLaws.{put-length}
+use Rattle.motor.specs.Sound.{heldRight}
 use Rattle.motor.proofs.SoundLaws.{and-l, and-r}
 use Rattle.table.specs.declared.head.Head.{Head}
-use Rattle.table.specs.Layout.{tableSize, headOf, headBytes, headUsed, headRest, withHead, recordStart, recordAt, motorAt}
+use Rattle.table.specs.Layout.{tableSize, headOf, headBytes, paused, headUsed, headRest, withHead, recordStart, recordAt, motorAt}
 use Rattle.table.specs.Sound.{headInRange, soundHead, soundTable}
 use Rattle.table.proofs.PieceLaws.{part-after}
-use Rattle.table.proofs.TableLaws.{sound-length, sound-record-at, sound-head-of, sound-from}
+use Rattle.table.proofs.TableLaws.{sound-length, sound-record-at, sound-held-at, sound-head-of, sound-from}
 
 -- Where the 64 bytes are the same, the head is, and it is sound alike.
 module _ (t u : List ℕ) (same : (i n : ℕ) → i + n ≤ 64 → part u i n ≡ part t i n) where
   pub same-head : headOf u ≡ headOf t
   unfolding headOf
-  same-head = rw (same 0 1 (omega arith), same 1 1 (omega arith), same 2 1 (omega arith))
+  same-head = rw (same 0 1 (omega arith), same 1 1 (omega arith), same 2 1 (omega arith), same 3 1 (omega arith))
 
   pub same-sound : soundHead u ≡ soundHead t
   unfolding soundHead
@@ -36,7 +37,7 @@ module _ (t : List ℕ) (h : Head) (whole : length t ≡ tableSize) where
 
   pub head-back : headOf (withHead t h) ≡ h
   unfolding headOf withHead part put
-  head-back = rw (byte-word (h .mode), byte-word (h .reply), byte-word (h .errors))
+  head-back = rw (byte-word (h .mode), byte-word (h .reply), byte-word (h .errors), byte-word (h .pause))
 
   pub head-after : (i n : ℕ) → headUsed ≤ i → part (withHead t h) i n ≡ part t i n
   unfolding withHead
@@ -49,15 +50,21 @@ module _ (t : List ℕ) (h : Head) (whole : length t ≡ tableSize) where
   unfolding motorAt
   head-motor c = rw (head-record c)
 
--- A head in range that is written into a sound table leaves it sound.
-pub head-sound : (t : List ℕ) (h : Head) → soundTable t ≡ true → headInRange h ≡ true → soundTable (withHead t h) ≡ true
+-- A head in range that is written into a sound table leaves it sound, where what is held is held under its pause.
+pub head-sound : (t : List ℕ) (h : Head) → soundTable t ≡ true → headInRange h ≡ true
+    → ((c : ℕ) → c ≤ 15 → heldRight (paused h) (motorAt t c) ≡ true) → soundTable (withHead t h) ≡ true
 unfolding soundHead
-head-sound t h s r =
+head-sound t h s r k =
     let e = sound-length t s in
     let zeros = and-r (headInRange (headOf t)) (allZero (part t headUsed headRest)) (sound-head-of t s) in
     sound-from (withHead t h) (head-length t h e)
     (rw (head-back t h e, r, head-after t h e headUsed headRest (omega arith)) zeros)
     (λ c l. rw (head-record t h e c) (sound-record-at t c s (omega arith)))
+    (λ c l. rw (head-back t h e, head-motor t h e c) (k c (omega arith)))
+
+-- So it is of a head that leaves pause as it was.
+pub head-sound-on : (t : List ℕ) (h : Head) → soundTable t ≡ true → headInRange h ≡ true → h .pause ≡ headOf t .pause → soundTable (withHead t h) ≡ true
+head-sound-on t h s r e = head-sound t h s r (λ c l. rw e (sound-held-at t c s l))
 
 -- The head of a sound table is in range.
 pub sound-range : (t : List ℕ) → soundTable t ≡ true → headInRange (headOf t) ≡ true
@@ -69,6 +76,7 @@ pub record HeadRange (h : Head) : Type 0 where
   pub mode : leb (h .mode) 1 ≡ true
   pub reply : leb (h .reply) 1 ≡ true
   pub errors : leb (h .errors) 15 ≡ true
+  pub pause : leb (h .pause) 1 ≡ true
 
 pub range-parts : (h : Head) → headInRange h ≡ true → HeadRange h
 unfolding headInRange
@@ -76,7 +84,7 @@ range-parts h r = search (and-l, and-r)
 
 pub parts-range : (h : Head) → HeadRange h → headInRange h ≡ true
 unfolding headInRange
-parts-range h p = rw (p .mode, p .reply, p .errors)
+parts-range h p = rw (p .mode, p .reply, p .errors, p .pause)
 
 -- The error flags are four bits.
 pub range-errors : (h : Head) → headInRange h ≡ true → h .errors ≤ 15

@@ -7,20 +7,20 @@ use native.Mathlib.Numerals.{add-one}
 use native.Mathlib.Omega.{arith}
 use lib.ListN.{length}
 use lib.Dec.{eqb, ltb}
-use borrow.Author.Tests.{eqb-true, eqb-false, ltb-true, ltb-false}
+use borrow.Author.Tests.{eqb-true, eqb-false, ltb-true, ltb-false, not-true}
 use Rattle.digits.specs.Bytes.{AllBytes, part, put}
 use Rattle.digits.proofs.PartLaws.{part-bytes}
 use Rattle.record.specs.declared.Motor.{Motor}
 use Rattle.record.specs.Record.{recordOf}
 use Rattle.record.proofs.RoundTrip.{record-length}
-use Rattle.motor.specs.Sound.{soundMotor, soundRecord}
+use Rattle.motor.specs.Sound.{soundMotor, soundRecord, heldRight}
 use Rattle.motor.proofs.RecordLaws.{record-sound, sound-written-read, sound-read-written}
-use Rattle.table.specs.Layout.{tableSize, recordStart, recordAt, motorAt, withMotor, withMotors, freshTable}
+use Rattle.table.specs.Layout.{tableSize, headOf, paused, recordStart, recordAt, motorAt, withMotor, withMotors, freshTable}
 use Rattle.table.specs.Sound.{soundTable}
 use Rattle.table.specs.Computing.{computing-table}
 use Rattle.table.proofs.PieceLaws.{put-back, part-same, part-before, part-after}
-use Rattle.table.proofs.TableLaws.{motor-length, upTo, up-to-none, up-to-motor, up-to-next, up-to-all, sound-length, sound-record-at, sound-motor-at, sound-head-of, sound-from}
-use Rattle.table.proofs.HeadLaws.{same-sound}
+use Rattle.table.proofs.TableLaws.{motor-length, upTo, up-to-none, up-to-motor, up-to-next, up-to-all, sound-length, sound-record-at, sound-motor-at, sound-held-at, sound-head-of, sound-from}
+use Rattle.table.proofs.HeadLaws.{same-head, same-sound}
 
 -- A record that is written is read back, and leaves the head and the other records.
 module _ (t : List ℕ) (c : ℕ) (m : Motor) (whole : length t ≡ tableSize) (channel : c ≤ 15) where
@@ -61,32 +61,41 @@ module _ (t : List ℕ) (c : ℕ) (sound : soundRecord (recordAt t c) ≡ true) 
   unfolding withMotor
   motor-back e h = rw read-back (put-back t (recordStart c) 64 (omega arith))
 
--- A sound motor written into a sound table leaves it sound.
+-- A sound motor written into a sound table, held under pause alone, leaves it sound.
 pub motor-sound : (t : List ℕ) (c : ℕ) (m : Motor) → soundTable t ≡ true → c ≤ 15 → soundMotor m ≡ true
-    → soundTable (withMotor t c m) ≡ true
-motor-sound t c m s h sm =
+    → heldRight (paused (headOf t)) m ≡ true → soundTable (withMotor t c m) ≡ true
+motor-sound t c m s h sm k =
     let e = sound-length t s in
     sound-from (withMotor t c m) (motor-length t c m e h)
     (rw (same-sound t (withMotor t c m) (head-kept t c m e h)) (sound-head-of t s))
     (λ d l. go d l (eqb d c) refl)
+    (λ d l. rw (same-head t (withMotor t c m) (head-kept t c m e h)) (held d l (eqb d c) refl))
   where
+    held : (d : ℕ) → d < 16 → (b : Bool) → eqb d c ≡ b → heldRight (paused (headOf t)) (motorAt (withMotor t c m) d) ≡ true
+    held d l true q = rw (eqb-true d c q, written-motor t c m (sound-length t s) h sm) k
+    held d l false q = rw (motor-kept t c m (sound-length t s) h d (eqb-false d c q)) (sound-held-at t d s (omega arith))
+
     go : (d : ℕ) → d < 16 → (b : Bool) → eqb d c ≡ b → soundRecord (recordAt (withMotor t c m) d) ≡ true
     go d l true q = rw (eqb-true d c q, written-record t c m (sound-length t s) h) (record-sound m sm)
     go d l false q = rw (record-kept t c m (sound-length t s) h d (eqb-false d c q)) (sound-record-at t d s (omega arith))
 
--- Sixteen motors changed in a way that keeps each of them sound leave the table sound.
-pub up-to-sound : (f : Motor → Motor) (t : List ℕ) → soundTable t ≡ true
-    → ((m : Motor) → soundMotor m ≡ true → soundMotor (f m) ≡ true) → (k : ℕ) → k ≤ 16 → soundTable (upTo f k t) ≡ true
-up-to-sound f t s keeps zero h = rw (up-to-none f t) s
-up-to-sound f t s keeps (suc k) h =
-    let e = sound-length t s in
-    let m : soundMotor (motorAt (upTo f k t) k) ≡ true = rw (up-to-motor f k t e) (sound-motor-at t k s (omega arith)) in
-    rw (← add-one k, ← up-to-next f k t e)
-    (motor-sound (upTo f k t) k (f (motorAt (upTo f k t) k)) (up-to-sound f t s keeps k (omega arith)) (omega arith) (keeps _ m))
+-- Sixteen motors changed in a way that keeps each of them sound, and holds none of them, leave the table sound.
+module _ (f : Motor → Motor) (keeps : (m : Motor) → soundMotor m ≡ true → soundMotor (f m) ≡ true) (frees : (m : Motor) → m .drive .held ≡ false → f m .drive .held ≡ false) where
+  right : (paused : Bool) (m : Motor) → heldRight paused m ≡ true → heldRight paused (f m) ≡ true
+  right true m e = refl
+  right false m e = rw (frees m (not-true _ e))
 
-pub motors-sound : (f : Motor → Motor) (t : List ℕ) → soundTable t ≡ true
-    → ((m : Motor) → soundMotor m ≡ true → soundMotor (f m) ≡ true) → soundTable (withMotors t f) ≡ true
-motors-sound f t s keeps = rw (← up-to-all f t (sound-length t s)) (up-to-sound f t s keeps 16 (omega arith))
+  up-to-sound : (t : List ℕ) → soundTable t ≡ true → (k : ℕ) → k ≤ 16 → soundTable (upTo f k t) ≡ true
+  up-to-sound t s zero h = rw (up-to-none f t) s
+  up-to-sound t s (suc k) h =
+      let e = sound-length t s in
+      let u = upTo f k t in
+      let so-far = up-to-sound t s k (omega arith) in
+      rw (← add-one k, ← up-to-next f k t e)
+      (motor-sound u k (f (motorAt u k)) so-far (omega arith) (keeps _ (sound-motor-at u k so-far (omega arith))) (right (paused (headOf u)) (motorAt u k) (sound-held-at u k so-far (omega arith))))
+
+  pub motors-sound : (t : List ℕ) → soundTable t ≡ true → soundTable (withMotors t f) ≡ true
+  motors-sound t s = rw (← up-to-all f t (sound-length t s)) (up-to-sound t s 16 (omega arith))
 
 -- A fresh table is sound.
 pub fresh-sound : soundTable freshTable ≡ true

@@ -16,7 +16,7 @@ use Rattle.digits.proofs.PutLaws.{put-after, put-none, put-whole}
 use Rattle.digits.proofs.WordLaws.{word-zero, zero-part}
 use Rattle.record.specs.Record.{recordOf, freshMotor}
 use Rattle.record.proofs.RoundTrip.{record-length}
-use Rattle.motor.specs.Sound.{soundRecord}
+use Rattle.motor.specs.Sound.{soundUnder}
 use Rattle.motor.proofs.SoundLaws.{and-false}
 use Rattle.table.specs.Layout.{tableSize, recordAt, withMotor, freshTable}
 use Rattle.table.proofs.PieceLaws.{every-more, gather-length}
@@ -63,22 +63,22 @@ zeroed-next t k e h =
     put-after t x (wordBytes 4 0) 0 (omega arith) in
     rw (more, ← replicate-append-replicate {A = ℕ} (4 * k) 4 0) (rw (zero-add, n) at step)
 
--- the first k records are sound
-unfoldable pub soundTo : List ℕ → ℕ → Bool
-soundTo t k = every soundRecord (pieces 64 k (drop 64 t))
+-- the first k records are sound, where pause is on or off
+unfoldable pub soundTo : Bool → List ℕ → ℕ → Bool
+soundTo paused t k = every (soundUnder paused) (pieces 64 k (drop 64 t))
 
-pub sound-none : (t : List ℕ) → soundTo t 0 ≡ true
+pub sound-none : (paused : Bool) (t : List ℕ) → soundTo paused t 0 ≡ true
 unfolding soundTo every pieces
-sound-none t = refl
+sound-none paused t = refl
 
-pub sound-next : (t : List ℕ) (k : ℕ) → soundTo t (k + 1) ≡ (soundTo t k && soundRecord (recordAt t k))
+pub sound-next : (paused : Bool) (t : List ℕ) (k : ℕ) → soundTo paused t (k + 1) ≡ (soundTo paused t k && soundUnder paused (recordAt t k))
 unfolding soundTo part
-sound-next t k = rw (add-one k, every-more soundRecord 64 k (drop 64 t), drop-drop)
+sound-next paused t k = rw (add-one k, every-more (soundUnder paused) 64 k (drop 64 t), drop-drop)
 
 -- Where one of the first k records is not sound, no more of them are.
-pub sound-fails : (t : List ℕ) (k n : ℕ) → soundTo t k ≡ false → soundTo t (k + n) ≡ false
-sound-fails t k zero e = rw (add-zero k) e
-sound-fails t k (suc n) e = rw (add-suc k n, ← add-one (k + n), sound-next t (k + n), sound-fails t k n e)
+pub sound-fails : (paused : Bool) (t : List ℕ) (k n : ℕ) → soundTo paused t k ≡ false → soundTo paused t (k + n) ≡ false
+sound-fails paused t k zero e = rw (add-zero k) e
+sound-fails paused t k (suc n) e = rw (add-suc k n, ← add-one (k + n), sound-next paused t (k + n), sound-fails paused t k n e)
 
 -- the first k records made fresh
 unfoldable pub freshTo : List ℕ → ℕ → List ℕ

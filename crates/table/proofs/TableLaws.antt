@@ -15,10 +15,10 @@ use Rattle.digits.proofs.PutLaws.{put-length}
 use Rattle.record.specs.declared.Motor.{Motor}
 use Rattle.record.specs.Record.{motorOf, recordOf, freshMotor}
 use Rattle.record.proofs.RoundTrip.{record-length}
-use Rattle.motor.specs.Sound.{soundMotor, soundRecord}
+use Rattle.motor.specs.Sound.{soundMotor, soundRecord, heldRight, soundUnder}
 use Rattle.motor.proofs.SoundLaws.{and-l, and-r}
 use Rattle.motor.proofs.RecordLaws.{record-motor-sound}
-use Rattle.table.specs.Layout.{tableSize, recordStart, recordAt, records, motorAt, withMotor, withMotors, freshTable}
+use Rattle.table.specs.Layout.{tableSize, headOf, paused, recordStart, recordAt, records, motorAt, withMotor, withMotors, freshTable}
 use Rattle.table.specs.Sound.{soundHead, soundTable}
 use Rattle.table.proofs.PieceLaws.{every-each, each-every, flat-more, flat-length, gather-length, put-next}
 
@@ -103,26 +103,37 @@ motors-length f t e = rw (← up-to-all f t e) (up-to-length f 16 t e (omega ari
 -- A sound table has a table's length, and its motors are sound.
 pub sound-length : (t : List ℕ) → soundTable t ≡ true → length t ≡ tableSize
 unfolding soundTable
-sound-length t s = eqb-true (length t) tableSize (and-l _ (soundHead t) (and-l _ (every soundRecord (records t)) s))
+sound-length t s = eqb-true (length t) tableSize (and-l _ (soundHead t) (and-l _ (every (soundUnder (paused (headOf t))) (records t)) s))
+
+sound-under-at : (t : List ℕ) (c : ℕ) → soundTable t ≡ true → c ≤ 15 → soundUnder (paused (headOf t)) (recordAt t c) ≡ true
+unfolding soundTable part
+sound-under-at t c s h =
+    let judged = soundUnder (paused (headOf t)) in
+    let all = and-r (eqb (length t) tableSize && soundHead t) (every judged (records t)) s in
+    rw (← drop-drop (64 * c) 64 t) (every-each judged 64 16 (drop 64 t) c all (omega arith))
 
 pub sound-record-at : (t : List ℕ) (c : ℕ) → soundTable t ≡ true → c ≤ 15 → soundRecord (recordAt t c) ≡ true
-unfolding soundTable part
-sound-record-at t c s h =
-    let all = and-r (eqb (length t) tableSize && soundHead t) (every soundRecord (records t)) s in
-    rw (← drop-drop (64 * c) 64 t) (every-each soundRecord 64 16 (drop 64 t) c all (omega arith))
+unfolding soundUnder
+sound-record-at t c s h = and-l (soundRecord (recordAt t c)) _ (sound-under-at t c s h)
 
 pub sound-motor-at : (t : List ℕ) (c : ℕ) → soundTable t ≡ true → c ≤ 15 → soundMotor (motorAt t c) ≡ true
 unfolding motorAt
 sound-motor-at t c s h = record-motor-sound (recordAt t c) (sound-record-at t c s h)
 
+-- What is held in it is held under pause.
+pub sound-held-at : (t : List ℕ) (c : ℕ) → soundTable t ≡ true → c ≤ 15 → heldRight (paused (headOf t)) (motorAt t c) ≡ true
+unfolding soundUnder motorAt
+sound-held-at t c s h = and-r (soundRecord (recordAt t c)) _ (sound-under-at t c s h)
+
 pub sound-head-of : (t : List ℕ) → soundTable t ≡ true → soundHead t ≡ true
 unfolding soundTable
-sound-head-of t s = and-r (eqb (length t) tableSize) _ (and-l _ (every soundRecord (records t)) s)
+sound-head-of t s = and-r (eqb (length t) tableSize) _ (and-l _ (every (soundUnder (paused (headOf t))) (records t)) s)
 
--- A table is sound where its length is right, its head is sound and each of its records is.
+-- A table is sound where its length is right, its head is sound, each of its records is, and what is held is held under pause.
 pub sound-from : (t : List ℕ) → length t ≡ tableSize → soundHead t ≡ true
-    → ((c : ℕ) → c < 16 → soundRecord (recordAt t c) ≡ true) → soundTable t ≡ true
-unfolding soundTable part
-sound-from t e h r =
+    → ((c : ℕ) → c < 16 → soundRecord (recordAt t c) ≡ true) → ((c : ℕ) → c < 16 → heldRight (paused (headOf t)) (motorAt t c) ≡ true)
+    → soundTable t ≡ true
+unfolding soundTable soundUnder motorAt part
+sound-from t e h r k =
     rw (eq-eqb (length t) tableSize e, h)
-    (each-every soundRecord 64 16 (drop 64 t) (λ c l. rw (drop-drop (64 * c) 64 t) (r c l)))
+    (each-every (soundUnder (paused (headOf t))) 64 16 (drop 64 t) (λ c l. rw (drop-drop (64 * c) 64 t, r c l) (k c l)))

@@ -1,7 +1,9 @@
 -- Document 01, "The table: 1,088 bytes".
 use Prim.Native.Nat.{ℕ, _+_, _*_, _-_}
 use mathlib.Core.List.{List, [], _∷_, _++_, flatMap}
+use mathlib.Core.Bool.{Bool}
 use lib.ListN.{take, drop, replicate}
+use lib.Dec.{eqb}
 use Rattle.digits.specs.Bytes.{part, put, pieces, gather}
 use Rattle.digits.specs.Words.{word}
 use Rattle.record.specs.declared.Motor.{Motor}
@@ -12,17 +14,22 @@ use Rattle.table.specs.declared.head.Head.{Head}
 abbrev pub tableSize : ℕ
 tableSize = 1088
 
--- "byte 0 mode (0 local, 1 remote), byte 1 all-reply (0 off, 1 on), byte 2 error flags 0..15": the head that a table holds
+-- "byte 0 mode (0 local, 1 remote), byte 1 all-reply (0 off, 1 on), byte 2 error flags 0..15", and 02 §3: "While on (head byte 3 is 1,
+-- else 0)": the head that a table holds
 unfoldable pub headOf : List ℕ → Head
-headOf t = record { mode = word (part t 0 1); reply = word (part t 1 1); errors = word (part t 2 1) }
+headOf t = record { mode = word (part t 0 1); reply = word (part t 1 1); errors = word (part t 2 1); pause = word (part t 3 1) }
 
 -- its fields as they are written
 abbrev pub headBytes : Head → List ℕ
-headBytes h = h .mode ∷ h .reply ∷ h .errors ∷ []
+headBytes h = h .mode ∷ h .reply ∷ h .errors ∷ h .pause ∷ []
+
+-- pause is on
+abbrev pub paused : Head → Bool
+paused h = eqb (h .pause) 1
 
 -- how many bytes they take, and how many are left; "the rest zero"
 abbrev pub headUsed : ℕ
-headUsed = 3
+headUsed = 4
 
 abbrev pub headRest : ℕ
 headRest = 64 - headUsed
@@ -33,15 +40,19 @@ withHead t h = put t 0 (headBytes h)
 
 -- the head with another mode
 abbrev pub withMode : Head → ℕ → Head
-withMode h n = record { mode = n; reply = h .reply; errors = h .errors }
+withMode h n = record { mode = n; reply = h .reply; errors = h .errors; pause = h .pause }
 
 -- the head with another all-reply
 abbrev pub withReply : Head → ℕ → Head
-withReply h n = record { mode = h .mode; reply = n; errors = h .errors }
+withReply h n = record { mode = h .mode; reply = n; errors = h .errors; pause = h .pause }
 
 -- the head with other error flags
 abbrev pub withErrors : Head → ℕ → Head
-withErrors h n = record { mode = h .mode; reply = h .reply; errors = n }
+withErrors h n = record { mode = h .mode; reply = h .reply; errors = n; pause = h .pause }
+
+-- the head with pause on or off
+abbrev pub withPause : Head → ℕ → Head
+withPause h n = record { mode = h .mode; reply = h .reply; errors = h .errors; pause = n }
 
 -- "the record of channel c starts at 64 + 64c"
 abbrev pub recordStart : ℕ → ℕ

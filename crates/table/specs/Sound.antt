@@ -6,18 +6,18 @@ use mathlib.Core.Bool.{Bool, _&&_}
 use lib.ListN.{length}
 use lib.Dec.{eqb, leb}
 use Rattle.digits.specs.Bytes.{part, every, allZero}
-use Rattle.motor.specs.Sound.{soundRecord}
+use Rattle.motor.specs.Sound.{soundUnder}
 use Rattle.table.specs.declared.head.Head.{Head}
-use Rattle.table.specs.Layout.{tableSize, headOf, headUsed, headRest, records}
+use Rattle.table.specs.Layout.{tableSize, headOf, paused, headUsed, headRest, records}
 
--- "mode (0 local, 1 remote)", "all-reply (0 off, 1 on)", "error flags 0..15"
+-- "mode (0 local, 1 remote)", "all-reply (0 off, 1 on)", "error flags 0..15"; 02 §3: "head byte 3 is 1, else 0"
 unfoldable pub headInRange : Head → Bool
-headInRange h = leb (h .mode) 1 && leb (h .reply) 1 && leb (h .errors) 15
+headInRange h = leb (h .mode) 1 && leb (h .reply) 1 && leb (h .errors) 15 && leb (h .pause) 1
 
 -- the fields of the head are in their ranges; "the rest zero"
 unfoldable pub soundHead : List ℕ → Bool
 soundHead t = headInRange (headOf t) && allZero (part t headUsed headRest)
 
--- "A table is *sound* when ..": its length, its head and all of its records
+-- "A table is *sound* when ..": its length, its head and all of its records; 02 §3: "a held record is sound only under pause"
 unfoldable pub soundTable : List ℕ → Bool
-soundTable t = eqb (length t) tableSize && soundHead t && every soundRecord (records t)
+soundTable t = eqb (length t) tableSize && soundHead t && every (soundUnder (paused (headOf t))) (records t)

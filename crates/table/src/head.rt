@@ -1,4 +1,4 @@
-// The head of the table, its first 64 bytes, by value: the mode, all-reply and the error flags; the rest is zero. Whoever
+// The head of the table, its first 64 bytes, by value: the mode, all-reply, the error flags and pause; the rest is zero. Whoever
 // changes one field reads the head, sets the field, and writes the head back.
 
 use digits::words::byte_at;
@@ -8,14 +8,15 @@ use digits::words::wide_at;
 ghost use mathlib.Core.Path.{_≡_};
 ghost use lib.ListN.{length, replicate};
 ghost use Rattle.digits.specs.Bytes.{part, put, allZero};
-ghost use Rattle.table.specs.Layout.{tableSize, headUsed, headRest, headOf, withHead, withMode, withReply, withErrors};
+ghost use Rattle.table.specs.Layout.{tableSize, headUsed, headRest, headOf, paused, withHead, withMode, withReply, withErrors, withPause};
 ghost use Rattle.table.specs.Sound.{headInRange, soundHead};
 
-// The mode: 0 local, 1 remote. All-reply: 0 off, 1 on. The error flags: 0 to 15.
+// The mode: 0 local, 1 remote. All-reply: 0 off, 1 on. The error flags: 0 to 15. Pause: 0 off, 1 on.
 pub struct Head {
     pub mode: u8,
     pub reply: u8,
     pub errors: u8,
+    pub pause: u8,
 }
 
 // The head that a table holds.
@@ -27,6 +28,7 @@ pub fn read_head(t: &[u8]) -> Head
         mode: byte_at(t, 0),
         reply: byte_at(t, 1),
         errors: byte_at(t, 2),
+        pause: byte_at(t, 3),
     }
 }
 
@@ -38,6 +40,14 @@ pub fn write_head(t: &mut [u8], h: Head)
     t[0] = h.mode;
     t[1] = h.reply;
     t[2] = h.errors;
+    t[3] = h.pause;
+}
+
+// Whether pause is on, so that what is started is held.
+pub fn is_paused(h: Head) -> bool
+    ensures { λ r. ⌜ r ≡ paused h ⌝ }
+{
+    h.pause == 1
 }
 
 // The head with one field set, and the others as they were.
@@ -65,14 +75,22 @@ pub fn with_errors(h: Head, k: u8) -> Head
     n
 }
 
+pub fn with_pause(h: Head, k: u8) -> Head
+    ensures { λ r. ⌜ r ≡ withPause h k ⌝ }
+{
+    let mut n = h;
+    n.pause = k;
+    n
+}
+
 // Whether the fields of a head are in their ranges.
 fn head_in_range(h: Head) -> bool
     ensures { λ r. ⌜ r ≡ headInRange h ⌝ }
 {
-    (h.mode <= 1) & (h.reply <= 1) & (h.errors <= 15)
+    (h.mode <= 1) & (h.reply <= 1) & (h.errors <= 15) & (h.pause <= 1)
 }
 
-// Whether the bytes of the head that no field has, 3 to 63, are zero: byte 3, a word of four bytes, and then words of eight.
+// Whether the bytes of the head that no field has, 4 to 63, are zero: a word of four bytes, and then words of eight.
 fn head_zero(t: &[u8]) -> bool
     requires { ⌜ length (now t) ≡ tableSize ⌝ }
     ensures { λ r. ⌜ r ≡ allZero (part (now (t .entry)) headUsed headRest) ⌝ }
@@ -85,7 +103,7 @@ fn head_zero(t: &[u8]) -> bool
             return false;
         }
     }
-    (byte_at(t, 3) == 0) & (long_at(t, 4) == 0)
+    long_at(t, 4) == 0
 }
 
 // Whether a head is sound.

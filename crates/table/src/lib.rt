@@ -4,6 +4,8 @@
 pub mod head;
 
 use digits::places::ORIGIN;
+use head::is_paused;
+use head::read_head;
 use head::sound_head;
 use head::zero_head;
 use motor::sound_record;
@@ -24,7 +26,7 @@ ghost use lib.ListN.{length};
 ghost use Rattle.digits.specs.Bytes.{put, every, gather};
 ghost use Rattle.record.specs.Record.{recordOf, freshMotor};
 ghost use Rattle.record.specs.Progress.{flagsAndDrive, progressed};
-ghost use Rattle.motor.specs.Sound.{soundRecord};
+ghost use Rattle.motor.specs.Sound.{soundUnder};
 ghost use Rattle.table.specs.Layout.{tableSize, recordStart, recordAt, records, motorAt, withMotor, freshTable};
 ghost use Rattle.table.specs.Sound.{soundTable};
 
@@ -77,25 +79,25 @@ pub fn put_progress(t: &mut [u8], c: u8, m: Motor)
     write_progress(&mut t[start..end], m)
 }
 
-// Whether the record of a channel is sound.
-fn sound_at(t: &[u8], c: u8) -> bool
+// Whether the record of a channel is sound, where pause is on or off.
+fn sound_at(paused: bool, t: &[u8], c: u8) -> bool
     requires { ⌜ (length (now t) ≡ tableSize) × (c ≤ 15) ⌝ }
-    ensures { λ r. ⌜ r ≡ soundRecord (recordAt (now (t .entry)) c) ⌝ }
+    ensures { λ r. ⌜ r ≡ soundUnder paused (recordAt (now (t .entry)) c) ⌝ }
 {
     let start = record_start(c);
     let end = start + 64;
-    sound_record(&t[start..end])
+    sound_record(paused, &t[start..end])
 }
 
 // How many records are sound, from the first on up to one that is not: 16 where all are. The count is handed back, and not a
 // verdict, because the compiler then has nothing to make ready at every test that may fail.
-fn sound_count(t: &[u8]) -> u8
+fn sound_count(paused: bool, t: &[u8]) -> u8
     requires { ⌜ length (now t) ≡ tableSize ⌝ }
-    ensures { λ r. ⌜ eqb r 16 ≡ every soundRecord (records (now (t .entry))) ⌝ }
+    ensures { λ r. ⌜ eqb r 16 ≡ every (soundUnder paused) (records (now (t .entry))) ⌝ }
 {
     let mut judged: u8 = 0;
     while judged < 16 {
-        if sound_at(t, judged) {
+        if sound_at(paused, t, judged) {
             judged += 1;
         } else {
             return judged;
@@ -110,7 +112,7 @@ pub fn sound_table(t: &[u8]) -> bool
 {
     if t.len() == 1088 {
         if sound_head(t) {
-            sound_count(t) == 16
+            sound_count(is_paused(read_head(t)), t) == 16
         } else {
             false
         }

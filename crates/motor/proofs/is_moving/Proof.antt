@@ -9,7 +9,7 @@ is-busy-requires c κs = search needs
 
 returns : tie.Need-returns
 unfolding moving
-returns c = c .is-busy .ensures
+returns c = rw (c .before .is-busy .ensures)
 
 pub is-moving-spec : {M : Type 1} → statement M
 is-moving-spec = tie.close (tie.spec is-busy-requires returns)

@@ -18,16 +18,16 @@ settings-sound-requires-2 c κs = search needs
 read-motor-requires : tie.Need-read-motor-requires
 read-motor-requires c κs = search needs
 
-drive-sound-requires : tie.Need-drive-sound-requires
-drive-sound-requires c κs = search needs
+drive-allowed-requires : tie.Need-drive-allowed-requires
+drive-allowed-requires c κs = search needs
 
 returns : tie.Need-returns
 returns c =
-    rw (c .settings-sound .ensures, zeros-sound _ (sym (c .before .before .drive-zero .ensures) ∙ c .before .if1 .taken))
+    rw (c .settings-sound .ensures, zeros-sound _ _ (sym (c .before .before .drive-zero .ensures) ∙ c .before .if1 .taken))
 
 returns-2 : tie.Need-returns-2
 unfolding soundMotor inRange
-returns-2 c = rw (c .drive-sound .ensures, c .before .read-motor .ensures, ← c .before .before .before .settings-sound2 .ensures, c .before .before .if2 .taken)
+returns-2 c = rw (c .drive-allowed .ensures, c .before .read-motor .ensures, ← c .before .before .before .settings-sound2 .ensures, c .before .before .if2 .taken)
 
 returns-3 : tie.Need-returns-3
 unfolding soundMotor inRange
@@ -41,7 +41,7 @@ motor-sound-spec =
     settings-sound-requires
     settings-sound-requires-2
     read-motor-requires
-    drive-sound-requires
+    drive-allowed-requires
     returns
     returns-2
     returns-3)

@@ -1,6 +1,6 @@
 -- `motor::sound_record` meets its contract. Assumes nothing.
 use borrow.Author.Tests.{ne-eqb}
-use Rattle.motor.specs.Sound.{soundRecord}
+use Rattle.motor.specs.Sound.{soundRecord, soundUnder}
 use borrow.Author.Needs.{needs}
 use Rattle.motor.proofs.sound_record.Statement.{statement}
 use Rattle.motor.proofs.sound_record.Tie as tie
@@ -12,7 +12,7 @@ returns : tie.Need-returns
 returns c = search needs
 
 returns-2 : tie.Need-returns-2
-unfolding soundRecord
+unfolding soundUnder soundRecord
 returns-2 c = simp (ne-eqb _ _ (c .if1 .left))
 
 pub sound-record-spec : {M : Type 1} → statement M

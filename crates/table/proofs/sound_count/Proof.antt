@@ -11,13 +11,13 @@ use Rattle.table.proofs.sound_count.Statement.{statement}
 use Rattle.table.proofs.sound_count.Tie as tie
 
 abbrev Inv-loop : tie.InvT-loop
-Inv-loop t judged₀ judged = (judged ≤ 16) × (soundTo t judged ≡ true)
+Inv-loop paused t judged₀ judged = (judged ≤ 16) × (soundTo paused t judged ≡ true)
 
 abbrev μ-loop : tie.MeasureT-loop
-μ-loop t judged₀ judged = 16 - judged
+μ-loop paused t judged₀ judged = 16 - judged
 
 loop-holds : tie.Need-loop-holds Inv-loop μ-loop
-loop-holds c = (search needs, sound-none (c .before .args .t .now))
+loop-holds c = (search needs, sound-none (c .before .args .paused) (c .before .args .t .now))
 
 sound-at-requires : tie.Need-sound-at-requires Inv-loop μ-loop
 sound-at-requires c κs = search needs
@@ -31,17 +31,18 @@ loop-less c = omega arith
 loop-again : tie.Need-loop-again Inv-loop μ-loop
 loop-again c =
     let l = c .before .before .before in
-    (omega arith, rw (sound-next (l .before .before .args .t .now) (l .loop .judged), l .loop .inv .1, ← c .before .sound-at .ensures) (c .if1 .taken))
+    (omega arith, rw (sound-next (l .before .before .args .paused) (l .before .before .args .t .now) (l .loop .judged), l .loop .inv .1, ← c .before .sound-at .ensures) (c .if1 .taken))
 
 returns : tie.Need-returns Inv-loop μ-loop
 unfolding soundTo
 returns c =
     let l = c .before .before .before in
     let t = l .before .before .args .t .now in
+    let p = l .before .before .args .paused in
     let k = l .loop .judged in
-    let after : soundTo t (k + 1) ≡ false = rw (sound-next t k, l .loop .inv .1, ← c .before .sound-at .ensures) (c .if1 .left) in
+    let after : soundTo p t (k + 1) ≡ false = rw (sound-next p t k, l .loop .inv .1, ← c .before .sound-at .ensures) (c .if1 .left) in
     let all : k + 1 + (15 - k) ≡ 16 = omega arith in
-    rw (ne-eqb k 16 (λ e. omega arith)) (sym (rw (all) at (sound-fails t (k + 1) (15 - k) after)))
+    rw (ne-eqb k 16 (λ e. omega arith)) (sym (rw (all) at (sound-fails p t (k + 1) (15 - k) after)))
 
 returns-2 : tie.Need-returns-2 Inv-loop μ-loop
 unfolding soundTo

@@ -19,4 +19,5 @@ second-row-spec =
     (λ c. rw (c .match .keys3) (record { row = refl; most = omega arith }))
     (λ c. rw (c .match .keys4) (record { row = refl; most = omega arith }))
     (λ c. rw (c .match .keys5) (record { row = refl; most = omega arith }))
+    (λ c. rw (c .match .keys6) (record { row = refl; most = omega arith }))
     (λ c. rw (none-with (repeated [] forms) _ refl (c .match .rest)) (record { row = refl; most = omega arith })))

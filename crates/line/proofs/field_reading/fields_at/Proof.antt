@@ -38,6 +38,18 @@ letters-at-requires-2 c κs = search needs
 enum-told-5 : tie.Need-enum-told-5
 enum-told-5 c = search needs
 
+letters-at-requires-3 : tie.Need-letters-at-requires-3
+letters-at-requires-3 c κs = search needs
+
+enum-told-6 : tie.Need-enum-told-6
+enum-told-6 c = search needs
+
+three-letters-at-requires : tie.Need-three-letters-at-requires
+three-letters-at-requires c κs = search needs
+
+enum-told-7 : tie.Need-enum-told-7
+enum-told-7 c = search needs
+
 returns : tie.Need-returns
 unfolding readFields
 returns c = rw (c .enum-told .given .1, c .before .before .no-fields .ensures)
@@ -59,7 +71,15 @@ returns-5 c = rw (c .before .enum-told4 .given .1, c .letters-at2 .ensures, c .b
 
 returns-6 : tie.Need-returns-6
 unfolding readFields
-returns-6 c = rw (c .enum-told5 .given .1)
+returns-6 c = rw (c .before .enum-told5 .given .1, c .letters-at3 .ensures, c .before .before .before .no-fields .ensures) (last-field _)
+
+returns-7 : tie.Need-returns-7
+unfolding readFields
+returns-7 c = rw (c .before .enum-told6 .given .1, c .three-letters-at .ensures, c .before .before .before .no-fields .ensures) (last-field _)
+
+returns-8 : tie.Need-returns-8
+unfolding readFields
+returns-8 c = rw (c .enum-told7 .given .1)
 
 pub fields-at-spec : {M : Type 1} → statement M
 fields-at-spec =
@@ -76,9 +96,15 @@ fields-at-spec =
     enum-told-4
     letters-at-requires-2
     enum-told-5
+    letters-at-requires-3
+    enum-told-6
+    three-letters-at-requires
+    enum-told-7
     returns
     returns-2
     returns-3
     returns-4
     returns-5
-    returns-6)
+    returns-6
+    returns-7
+    returns-8)

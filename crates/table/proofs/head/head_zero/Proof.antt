@@ -49,20 +49,16 @@ returns c =
     let k = l .loop .k in
     sym (zero-fails t headUsed k (omega arith) (omega arith) (omega arith) (rw (← c .before .wide-at .ensures) (ne-eqb _ _ (c .if1 .left))))
 
-byte-at-requires : tie.Need-byte-at-requires Inv-loop μ-loop
-byte-at-requires c κs = search needs
-
 long-at-requires : tie.Need-long-at-requires Inv-loop μ-loop
 long-at-requires c κs = search needs
 
 returns-2 : tie.Need-returns-2 Inv-loop μ-loop
 unfolding zeroTo
 returns-2 c =
-    let l = c .before .before .before in
+    let l = c .before .before in
     let t = l .before .before .args .t .now in
     let e : l .loop .k ≡ 8 = omega arith in
-    rw (zero-part t 3 1 60, zero-part t 4 4 56, c .long-at .ensures, c .before .byte-at .ensures, rw (e) at (l .loop .inv .2))
-    (rw (and-true (eqb (word (part t 4 4)) 0)))
+    rw (zero-part t 4 4 56, c .long-at .ensures, rw (e) at (l .loop .inv .2)) (sym (and-true (eqb (word (part t 4 4)) 0)))
 
 pub head-zero-spec : {M : Type 1} → statement M
 head-zero-spec =
@@ -77,6 +73,5 @@ head-zero-spec =
     loop-less
     loop-again
     returns
-    byte-at-requires
     long-at-requires
     returns-2)

@@ -15,6 +15,9 @@ slice-write-t-2 c = search needs
 slice-write-t-3 : tie.Need-slice-write-t-3
 slice-write-t-3 c = search needs
 
+slice-write-t-4 : tie.Need-slice-write-t-4
+slice-write-t-4 c = search needs
+
 same-length : tie.Need-same-length
 same-length c = search needs
 
@@ -24,4 +27,4 @@ returns c = stores-put (headBytes (c .args .h)) (c .args .t .now) 0 (omega arith
 
 pub write-head-spec : {M : Type 1} → statement M
 write-head-spec =
-    tie.close (tie.spec slice-write-t slice-write-t-2 slice-write-t-3 same-length returns)
+    tie.close (tie.spec slice-write-t slice-write-t-2 slice-write-t-3 slice-write-t-4 same-length returns)
