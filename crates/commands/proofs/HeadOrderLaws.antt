@@ -3,18 +3,22 @@ use mathlib.Core.Path.{_≡_, refl}
 use mathlib.Core.Bool.{Bool, true, false, cond}
 use Prim.Native.Nat.{ℕ, zero, suc, _+_, _-_, _/_, _%_, _^_, _≤_}
 use native.Mathlib.Omega.{arith}
+use mathlib.Core.List.{List}
+use lib.ListN.{length}
 use lib.Dec.{eqb}
 use borrow.Author.Tests.{eqb-false, le-leb}
 use Rattle.digits.specs.Words.{isSet, withBit, withoutBit}
 use Rattle.drive.specs.Numbers.{flagBit}
+use Rattle.drive.specs.Drives.{released}
 use Rattle.line.specs.declared.HeadOrder.{HeadOrder}
-use Rattle.line.specs.declared.HeadOrder.the-variants.{Mode, AllReply, ClearErrors, ClearError}
+use Rattle.line.specs.declared.HeadOrder.the-variants.{Mode, AllReply, ClearErrors, ClearError, Pause}
 use Rattle.line.specs.Made.{headMade}
 use Rattle.table.specs.declared.head.Head.{Head}
-use Rattle.table.specs.Layout.{withMode, withReply, withErrors}
+use Rattle.table.specs.Layout.{tableSize, withMode, withReply, withErrors, withPause, withMotors}
 use Rattle.table.specs.Sound.{headInRange}
+use Rattle.table.proofs.TableLaws.{motors-length}
 use Rattle.table.proofs.HeadLaws.{range-parts, parts-range, range-errors}
-use Rattle.commands.specs.Changing.{headChanged}
+use Rattle.commands.specs.Changing.{headChanged, releases, motorsFreed}
 
 -- The error flags stay within 0 to 15, whichever of the four bits is set or cleared.
 set-bound : (k n : ℕ) → k ≤ 3 → n ≤ 15 → withBit k n ≤ 15
@@ -77,3 +81,12 @@ changed-range h (Mode k) r m = let p = range-parts h r in parts-range (withMode 
 changed-range h (AllReply k) r m = let p = range-parts h r in parts-range (withReply h k) (search)
 changed-range h ClearErrors r m = errors-range h 0 r (omega arith)
 changed-range h (ClearError e) r m = errors-range h (withoutBit e (h .errors)) r (cleared-bound e (h .errors) (range-errors h r))
+changed-range h (Pause k) r m = let p = range-parts h r in parts-range (withPause h k) (search)
+
+-- A table whose motors are released, or left, keeps its length.
+pub freed-length : (t : List ℕ) (o : HeadOrder) → length t ≡ tableSize → length (motorsFreed t o) ≡ tableSize
+freed-length t o e = go (releases o)
+  where
+    go : (b : Bool) → length (cond b (withMotors t released) t) ≡ tableSize
+    go true = motors-length released t e
+    go false = e

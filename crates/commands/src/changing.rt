@@ -2,6 +2,7 @@
 
 use crate::flags::clear_flag;
 use drive::change_speed;
+use drive::release;
 use drive::start;
 use drive::stop;
 use line::HeadOrder;
@@ -14,9 +15,11 @@ use orders::settings::speed_written;
 use orders::settings::with_setting;
 use record::Motor;
 use table::head::Head;
+use table::head::is_paused;
 use table::head::read_head;
 use table::head::with_errors;
 use table::head::with_mode;
+use table::head::with_pause;
 use table::head::with_reply;
 use table::head::write_head;
 use table::motor_at;
@@ -27,21 +30,22 @@ ghost use mathlib.Core.Bool.{true};
 ghost use Prim.Native.Nat.{_≤_};
 ghost use lib.ListN.{length};
 ghost use Rattle.motor.specs.Sound.{isSpeed, soundRecord};
-ghost use Rattle.drive.specs.Drives.{started, stopped, speedChanged};
+ghost use Rattle.drive.specs.Drives.{started, released, stopped, speedChanged};
 ghost use Rattle.line.specs.Made.{orderMade};
 ghost use Rattle.orders.specs.Values.{startInRange, settingInRange, headValueInRange, valueInRange};
 ghost use Rattle.orders.specs.Settings.{courseOf, withSetting};
-ghost use Rattle.table.specs.Layout.{tableSize, headOf, withHead, recordAt, motorAt, withMotor, withMotors};
+ghost use Rattle.table.specs.Layout.{tableSize, headOf, paused, withHead, recordAt, motorAt, withMotor, withMotors};
 ghost use Rattle.table.specs.Sound.{soundTable};
-ghost use Rattle.commands.specs.Changing.{headChanged, changed};
+ghost use Rattle.commands.specs.Changing.{headChanged, releases, motorsFreed, changed};
 
-// Starts a channel.
+// Starts a channel, or holds it where pause is on.
 fn make_start(t: &mut [u8], x: u8, s: Start)
     requires { ⌜ (length (now t) ≡ tableSize) × (x ≤ 15) × (startInRange s ≡ true) ⌝ }
-    ensures { λ _. ⌜ now (t .exit) ≡ withMotor (now (t .entry)) x (started (motorAt (now (t .entry)) x) (courseOf (motorAt (now (t .entry)) x) s)) ⌝ }
+    ensures { λ _. ⌜ now (t .exit) ≡ withMotor (now (t .entry)) x (started (paused (headOf (now (t .entry)))) (motorAt (now (t .entry)) x) (courseOf (motorAt (now (t .entry)) x) s)) ⌝ }
 {
+    let h = read_head(t);
     let m = motor_at(t, x);
-    put_motor(t, x, start(m, course_of(m, s)));
+    put_motor(t, x, start(is_paused(h), m, course_of(m, s)));
 }
 
 // Stops a channel; the record of a stopped one is left unwritten.
@@ -63,6 +67,29 @@ fn stop_all(t: &mut [u8], flags: u8)
     let mut x: u8 = 0;
     while x < 16 {
         make_stop(t, x, flags);
+        x += 1;
+    }
+}
+
+// Releases a channel; the record of one that is not held is left unwritten.
+fn make_release(t: &mut [u8], x: u8)
+    requires { ⌜ (length (now t) ≡ tableSize) × (x ≤ 15) × (soundRecord (recordAt (now t) x) ≡ true) ⌝ }
+    ensures { λ _. ⌜ now (t .exit) ≡ withMotor (now (t .entry)) x (released (motorAt (now (t .entry)) x)) ⌝ }
+{
+    let m = motor_at(t, x);
+    if m.drive.held {
+        put_drive(t, x, release(m));
+    }
+}
+
+// Releases every channel.
+fn release_all(t: &mut [u8])
+    requires { ⌜ soundTable (now t) ≡ true ⌝ }
+    ensures { λ _. ⌜ now (t .exit) ≡ withMotors (now (t .entry)) released ⌝ }
+{
+    let mut x: u8 = 0;
+    while x < 16 {
+        make_release(t, x);
         x += 1;
     }
 }
@@ -95,15 +122,40 @@ fn head_changed(h: Head, o: HeadOrder) -> Head
         HeadOrder::AllReply(k) => with_reply(h, k),
         HeadOrder::ClearErrors => with_errors(h, 0),
         HeadOrder::ClearError(e) => clear_flag(h, e),
+        HeadOrder::Pause(k) => with_pause(h, k),
     }
 }
 
-// Changes the head.
+// Whether an order of the head releases what is held: PAUSE OFF does.
+fn is_release(o: HeadOrder) -> bool
+    ensures { λ r. ⌜ r ≡ releases o ⌝ }
+{
+    match o {
+        HeadOrder::Mode(_) => false,
+        HeadOrder::AllReply(_) => false,
+        HeadOrder::ClearErrors => false,
+        HeadOrder::ClearError(_) => false,
+        HeadOrder::Pause(k) => k == 0,
+    }
+}
+
+// What an order of the head is to the motors.
+fn free_motors(t: &mut [u8], o: HeadOrder)
+    requires { ⌜ soundTable (now t) ≡ true ⌝ }
+    ensures { λ _. ⌜ now (t .exit) ≡ motorsFreed (now (t .entry)) o ⌝ }
+{
+    if is_release(o) {
+        release_all(t);
+    }
+}
+
+// Changes the head, and releases the motors that it holds where pause ends.
 fn change_head(t: &mut [u8], o: HeadOrder)
-    requires { ⌜ (length (now t) ≡ tableSize) × (headValueInRange o ≡ true) ⌝ }
-    ensures { λ _. ⌜ now (t .exit) ≡ withHead (now (t .entry)) (headChanged (headOf (now (t .entry))) o) ⌝ }
+    requires { ⌜ (soundTable (now t) ≡ true) × (headValueInRange o ≡ true) ⌝ }
+    ensures { λ _. ⌜ now (t .exit) ≡ withHead (motorsFreed (now (t .entry)) o) (headChanged (headOf (now (t .entry))) o) ⌝ }
 {
     let h = read_head(t);
+    free_motors(t, o);
     write_head(t, head_changed(h, o));
 }
 

@@ -11,8 +11,8 @@ use Rattle.line.specs.declared.Four.{Four}
 use Rattle.line.specs.declared.Start.the-variants.{Abs, Rel, Scan, Jog}
 use Rattle.line.specs.declared.Setting.the-variants.{Preset, SetCwLimit, SetCcwLimit, Select, SetSpeed, SetSwitches, SetMotor}
 use Rattle.line.specs.declared.Question.the-variants.{AskPosition}
-use Rattle.line.specs.declared.HeadQuestion.the-variants.{AskError}
-use Rattle.line.specs.declared.HeadOrder.the-variants.{Mode, AllReply, ClearErrors, ClearError}
+use Rattle.line.specs.declared.HeadQuestion.the-variants.{AskError, AskPause}
+use Rattle.line.specs.declared.HeadOrder.the-variants.{Mode, AllReply, ClearErrors, ClearError, Pause}
 use Rattle.line.specs.declared.Order.the-variants.{Go, Stop, StopAll, ChangeSpeed, Set, Ask, AskHead, ForHead}
 use Rattle.orders.specs.Values.{needsRemote, valueInRange}
 use Rattle.orders.specs.Settings.{courseOf, withSetting}
@@ -28,11 +28,11 @@ less n = record { minus = true; digits = n }
 four : ℕ → ℕ → ℕ → ℕ → Four
 four a b c d = record { a = a; b = b; c = c; d = d }
 
--- Starts, SPC, settings and all-reply need remote mode; stops, reads, LOC, REM and the ERR family do not.
+-- Starts, SPC, settings, all-reply and pause need remote mode; stops, reads, LOC, REM and the ERR family do not.
 modes :
-    map needsRemote (Go 0 (Scan cw) ∷ ChangeSpeed 0 1 ∷ Set 0 (Select 2) ∷ ForHead (AllReply 1)
-    ∷ Stop 0 0x40 ∷ StopAll 0x80 ∷ Ask 0 AskPosition ∷ ForHead (Mode 0) ∷ ForHead (Mode 1) ∷ AskHead AskError ∷ ForHead ClearErrors ∷ ForHead (ClearError 3) ∷ [])
-    ≡ true ∷ true ∷ true ∷ true ∷ false ∷ false ∷ false ∷ false ∷ false ∷ false ∷ false ∷ false ∷ []
+    map needsRemote (Go 0 (Scan cw) ∷ ChangeSpeed 0 1 ∷ Set 0 (Select 2) ∷ ForHead (AllReply 1) ∷ ForHead (Pause 1) ∷ ForHead (Pause 0)
+    ∷ Stop 0 0x40 ∷ StopAll 0x80 ∷ Ask 0 AskPosition ∷ ForHead (Mode 0) ∷ ForHead (Mode 1) ∷ AskHead AskError ∷ AskHead AskPause ∷ ForHead ClearErrors ∷ ForHead (ClearError 3) ∷ [])
+    ≡ true ∷ true ∷ true ∷ true ∷ true ∷ true ∷ false ∷ false ∷ false ∷ false ∷ false ∷ false ∷ false ∷ false ∷ false ∷ []
 unfolding computing-orders
 modes = refl
 

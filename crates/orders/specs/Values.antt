@@ -10,16 +10,17 @@ use Rattle.line.specs.declared.Start.the-variants.{Abs, Rel, Scan, Jog}
 use Rattle.line.specs.declared.Setting.{Setting}
 use Rattle.line.specs.declared.Setting.the-variants.{Preset, SetCwLimit, SetCcwLimit, Select, SetSpeed, SetSwitches, SetMotor}
 use Rattle.line.specs.declared.HeadOrder.{HeadOrder}
-use Rattle.line.specs.declared.HeadOrder.the-variants.{Mode, AllReply, ClearErrors, ClearError}
+use Rattle.line.specs.declared.HeadOrder.the-variants.{Mode, AllReply, ClearErrors, ClearError, Pause}
 use Rattle.line.specs.declared.Order.{Order}
 use Rattle.line.specs.declared.Order.the-variants.{Go, Stop, StopAll, ChangeSpeed, Set, Ask, AskHead, ForHead}
 
--- of the orders of the head "LOC, REM and the ERR family are taken in both modes"
+-- of the orders of the head "LOC, REM and the ERR family are taken in both modes"; 02 §3: `PAUSE ON` and `PAUSE OFF` "remote only"
 abbrev pub headNeedsRemote : HeadOrder → Bool
 headNeedsRemote (Mode k) = false
 headNeedsRemote (AllReply k) = true
 headNeedsRemote ClearErrors = false
 headNeedsRemote (ClearError e) = false
+headNeedsRemote (Pause k) = true
 
 -- "Reads, the four stops, LOC, REM and the ERR family are taken in both modes; the rest need remote mode."
 unfoldable pub needsRemote : Order → Bool
@@ -67,6 +68,7 @@ headValueInRange (Mode k) = true
 headValueInRange (AllReply k) = true
 headValueInRange ClearErrors = true
 headValueInRange (ClearError e) = leb e 3
+headValueInRange (Pause k) = true
 
 -- the value that an order carries is in its range
 unfoldable pub valueInRange : Order → Bool

@@ -22,6 +22,7 @@ fn head_needs_remote(h: HeadOrder) -> bool
         HeadOrder::AllReply(_) => true,
         HeadOrder::ClearErrors => false,
         HeadOrder::ClearError(_) => false,
+        HeadOrder::Pause(_) => true,
     }
 }
 
@@ -110,6 +111,7 @@ fn head_value_in_range(h: HeadOrder) -> bool
         HeadOrder::AllReply(_) => true,
         HeadOrder::ClearErrors => true,
         HeadOrder::ClearError(e) => e <= 3,
+        HeadOrder::Pause(_) => true,
     }
 }
 

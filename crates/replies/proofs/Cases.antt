@@ -1,6 +1,7 @@
 -- Replies computed by the definitions. Each list is one statement, and its proof is the computation.
 use mathlib.Core.Path.{_≡_, refl}
 use mathlib.Core.List.{List, [], _∷_, _++_, map}
+use mathlib.Core.Bool.{true, false}
 use Prim.Native.Nat.{ℕ, _+_, _-_}
 use lib.ListN.{replicate}
 use Rattle.text.specs.Text.{bytes}
@@ -10,10 +11,11 @@ use Rattle.record.specs.declared.Motor.{Motor}
 use Rattle.record.specs.Record.{freshMotor, standing, withPlace, withSpeeds, withWiring, withSetup, withDrive}
 use Rattle.drive.specs.declared.Course.the-variants.{To, Along}
 use Rattle.drive.specs.declared.Verdict.the-variants.{Done, NoForm, Busy, OutOfRange, LocalMode, Disabled, Unread, SwitchAhead, NoRoom, NotDriving, WrongSize, NotSound}
-use Rattle.drive.specs.Drives.{started, stopped, contacted}
+use Rattle.drive.specs.Drives.{started, released, stopped, contacted}
 use Rattle.table.specs.declared.head.Head.{Head}
+use Rattle.table.specs.Layout.{withPause}
 use Rattle.line.specs.declared.Question.the-variants.{AskPosition, AskCwLimit, AskCcwLimit, AskSelected, AskSpeed, AskSwitches, AskMotor, AskStatus}
-use Rattle.line.specs.declared.HeadQuestion.the-variants.{AskAllReply, AskFlags, AskError}
+use Rattle.line.specs.declared.HeadQuestion.the-variants.{AskAllReply, AskFlags, AskError, AskPause}
 use Rattle.replies.specs.Replies.{echo, headText, questionText}
 use Rattle.replies.specs.Computing.{computing-replies}
 
@@ -33,15 +35,16 @@ silent = refl
 
 -- a head with all-reply and error flags
 abbrev heading : ℕ → ℕ → Head
-heading all flags = record { mode = 1; reply = all; errors = flags }
+heading all flags = record { mode = 1; reply = all; errors = flags; pause = 0 }
 
--- `ALL_REP?`, and `ERRF?` in capitals
+-- `ALL_REP?`, `ERRF?` in capitals, and `PAUSE?`
 about-head :
     (headText (heading 1 0) AskAllReply ≡ bytes "EN")
     × (headText (heading 0 0) AskAllReply ≡ bytes "DS")
     × (map (λ e. headText (heading 0 e) AskFlags) (0 ∷ 8 ∷ 10 ∷ 15 ∷ 255 ∷ []) ≡ bytes "00" ∷ bytes "08" ∷ bytes "0A" ∷ bytes "0F" ∷ bytes "FF" ∷ [])
+    × (map (λ n. headText (withPause (heading 1 15) n) AskPause) (0 ∷ 1 ∷ 2 ∷ []) ≡ bytes "OFF" ∷ bytes "ON" ∷ bytes "OFF" ∷ [])
 unfolding computing-replies
-about-head = (refl, refl, refl)
+about-head = (refl, refl, refl, refl)
 
 -- `ERR?` with each set of flags, 0 to 15: the lowest that is set has its text.
 errors :
@@ -103,13 +106,13 @@ known = contacted freshMotor 0
 
 -- "`STSx?`": the cases of the document, then local mode, CCW, the channel in hex and end flags
 statuses :
-    (questionText 1 0 (withPlace (started known (To (origin + 3))) (origin + 2)) AskStatus ≡ bytes "R0P003+0000002")
+    (questionText 1 0 (withPlace (started false known (To (origin + 3))) (origin + 2)) AskStatus ≡ bytes "R0P003+0000002")
     × (questionText 1 0 (withDrive (withPlace freshMotor (origin + 3)) 0x20 standing) AskStatus ≡ bytes "R0S020+0000003")
     × (questionText 1 0 (withPlace freshMotor (origin + 3)) AskStatus ≡ bytes "R0S000+0000003")
     × (questionText 0 10 freshMotor AskStatus ≡ bytes "LAS000+0000000")
-    × (questionText 1 15 (withPlace (started known (Along ccw)) (origin - 4)) AskStatus ≡ bytes "RFN003-0000004")
-    × (questionText 1 9 (stopped 0x80 (started known (Along cw))) AskStatus ≡ bytes "R9S080+0000000")
-    × (questionText 1 9 (stopped 0x40 (started known (Along cw))) AskStatus ≡ bytes "R9S040+0000000")
+    × (questionText 1 15 (withPlace (started false known (Along ccw)) (origin - 4)) AskStatus ≡ bytes "RFN003-0000004")
+    × (questionText 1 9 (stopped 0x80 (started false known (Along cw))) AskStatus ≡ bytes "R9S080+0000000")
+    × (questionText 1 9 (stopped 0x40 (started false known (Along cw))) AskStatus ≡ bytes "R9S040+0000000")
     × (questionText 1 0 (withPlace freshMotor lowest) AskStatus ≡ bytes "R0S000-2147483647")
 unfolding computing-replies known
 statuses = (refl, refl, refl, refl, refl, refl, refl, refl)
@@ -129,9 +132,24 @@ switches-shown :
     × (withV 0b01110111 0b111 1 ≡ bytes "R0S000+0000000")
     × (withV 0b01110000 0b000 0 ≡ bytes "R0S800+0000000")
     × (withV 0b00000101 0b010 0 ≡ bytes "R0SF00+0000000")
-    × (questionText 1 0 (started (withSetup known (record { a = 1; b = 0; c = 0; d = 0 })) (Along cw)) AskStatus ≡ bytes "R0P003+0000000")
+    × (questionText 1 0 (started false (withSetup known (record { a = 1; b = 0; c = 0; d = 0 })) (Along cw)) AskStatus ≡ bytes "R0P003+0000000")
 unfolding computing-replies withV showing known
 switches-shown = (refl, refl, refl, refl, refl, refl, refl)
+
+-- 02 §3: held, "STS shows S, HH 01, V's bit 3 clear": CW and CCW, with B at 1 and at 0, with a switch closed, in local mode, and stopped
+-- again.
+unset : Motor
+unset = withSetup known (record { a = 1; b = 0; c = 0; d = 0 })
+
+held-shown :
+    (map (λ going. questionText 1 0 (started true known (Along going)) AskStatus) (cw ∷ ccw ∷ []) ≡ replicate 2 (bytes "R0S001+0000000"))
+    × (map (λ m. questionText 1 0 m AskStatus) (unset ∷ started true unset (Along cw) ∷ stopped 0x80 (started true unset (Along cw)) ∷ [])
+    ≡ bytes "R0S800+0000000" ∷ bytes "R0S001+0000000" ∷ bytes "R0S880+0000000" ∷ [])
+    × (questionText 1 2 (started true (contacted freshMotor 1) (Along ccw)) AskStatus ≡ bytes "R2S101+0000000")
+    × (questionText 0 0 (started true known (Along cw)) AskStatus ≡ bytes "L0S001+0000000")
+    × (questionText 1 0 (released (started true unset (Along ccw))) AskStatus ≡ bytes "R0N003+0000000")
+unfolding computing-replies known unset
+held-shown = (refl, refl, refl, refl, refl)
 
 -- 02 §2: "V shows its switch bits as 0 while unknown": N.O. or N.C., enabled or not; bit 3 is shown as before.
 unknown-shown :

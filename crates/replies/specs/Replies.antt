@@ -13,10 +13,11 @@ use Rattle.drive.specs.declared.Verdict.{Verdict}
 use Rattle.drive.specs.Numbers.{numberOf}
 use Rattle.drive.specs.Drives.{speedNumbered}
 use Rattle.table.specs.declared.head.Head.{Head}
+use Rattle.table.specs.Layout.{paused}
 use Rattle.line.specs.declared.Question.{Question}
 use Rattle.line.specs.declared.Question.the-variants.{AskPosition, AskCwLimit, AskCcwLimit, AskSelected, AskSpeed, AskSwitches, AskMotor, AskStatus}
 use Rattle.line.specs.declared.HeadQuestion.{HeadQuestion}
-use Rattle.line.specs.declared.HeadQuestion.the-variants.{AskAllReply, AskFlags, AskError}
+use Rattle.line.specs.declared.HeadQuestion.the-variants.{AskAllReply, AskFlags, AskError, AskPause}
 
 -- "No. | Text": the text for each number; 5 and 6 have "none", and what is left over has NG
 unfoldable pub textOf : ℕ → List ℕ
@@ -75,8 +76,13 @@ echo all v = cond (eqb all 1) (textOf (numberOf v)) []
 unfoldable pub allReplyText : ℕ → List ℕ
 allReplyText all = cond (eqb all 1) (bytes "EN") (bytes "DS")
 
+-- 02 §3: "reply ON or OFF"
+unfoldable pub pauseText : Head → List ℕ
+pauseText h = cond (paused h) (bytes "ON") (bytes "OFF")
+
 -- what is answered to a question about the head: "`ERRF?` two hex digits"
 unfoldable pub headText : Head → HeadQuestion → List ℕ
 headText h AskAllReply = allReplyText (h .reply)
 headText h AskFlags = hexByte (h .errors)
 headText h AskError = errorText (h .errors)
+headText h AskPause = pauseText h

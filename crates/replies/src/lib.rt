@@ -6,7 +6,7 @@ pub mod texts;
 use crate::settings::write_selected;
 use crate::settings::write_setup;
 use crate::settings::write_switches;
-use crate::texts::write_all_reply;
+use crate::texts::write_either;
 use crate::texts::write_error;
 use crate::texts::write_verdict;
 use drive::Verdict;
@@ -16,6 +16,7 @@ use line::Question;
 use record::Motor;
 use status::write_status;
 use table::head::Head;
+use table::head::is_paused;
 use text::decimal::write_decimal;
 use text::decimal::write_signed;
 use text::hex::write_hex;
@@ -43,12 +44,13 @@ pub fn write_head_question(out: &mut [u8], h: Head, q: HeadQuestion) -> usize
     ensures { λ r. ⌜ r ≤ 32 ⌝ }
 {
     match q {
-        HeadQuestion::AskAllReply => write_all_reply(out, h.reply),
+        HeadQuestion::AskAllReply => write_either(out, h.reply == 1, b"EN", b"DS"),
         HeadQuestion::AskFlags => {
             write_hex(out, h.errors);
             2
         }
         HeadQuestion::AskError => write_error(out, h.errors),
+        HeadQuestion::AskPause => write_either(out, is_paused(h), b"ON", b"OFF"),
     }
 }
 

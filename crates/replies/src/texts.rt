@@ -4,11 +4,12 @@ use digits::is_set;
 use drive::Verdict;
 use drive::numbers::number_of;
 ghost use mathlib.Core.Path.{_≡_};
+ghost use mathlib.Core.Bool.{cond};
 ghost use Prim.Native.Nat.{_≤_};
 ghost use lib.ListN.{length};
 ghost use Rattle.text.specs.Text.{Wrote};
 ghost use Rattle.drive.specs.Numbers.{numberOf};
-ghost use Rattle.replies.specs.Replies.{textOf, errorText, allReplyText};
+ghost use Rattle.replies.specs.Replies.{textOf, errorText};
 
 // A quoted text: what is answered is how long it is.
 pub fn write_text(out: &mut [u8], text: &[u8]) -> usize
@@ -57,14 +58,10 @@ pub fn write_error(out: &mut [u8], flags: u8) -> usize
     }
 }
 
-// Whether all-reply is on.
-pub fn write_all_reply(out: &mut [u8], all: u8) -> usize
-    requires { ⌜ 32 ≤ length (now out) ⌝ }
-    ensures { λ r. ⌜ Wrote (now (out .entry)) (now (out .exit)) (allReplyText all) r ⌝ }
+// One of two texts, by what is on or off.
+pub fn write_either(out: &mut [u8], on: bool, a: &[u8], b: &[u8]) -> usize
+    requires { ⌜ (length (now a) ≤ length (now out)) × (length (now b) ≤ length (now out)) ⌝ }
+    ensures { λ r. ⌜ Wrote (now (out .entry)) (now (out .exit)) (cond on (now (a .entry)) (now (b .entry))) r ⌝ }
 {
-    if all == 1 {
-        write_text(out, b"EN")
-    } else {
-        write_text(out, b"DS")
-    }
+    if on { write_text(out, a) } else { write_text(out, b) }
 }

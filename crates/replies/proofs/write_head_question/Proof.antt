@@ -3,8 +3,8 @@ use mathlib.Core.Path.{refl}
 use Prim.Native.Nat.{_≤_}
 use lib.ListN.{length}
 use borrow.Author.Needs.{needs}
-use Rattle.text.specs.Text.{hexByte}
-use Rattle.replies.specs.Replies.{headText}
+use Rattle.text.specs.Text.{bytes, hexByte}
+use Rattle.replies.specs.Replies.{allReplyText, pauseText, headText}
 use Rattle.replies.proofs.ReplyLaws.{short, head-within}
 use Rattle.replies.proofs.write_head_question.Statement.{statement}
 use Rattle.replies.proofs.write_head_question.Tie as tie
@@ -16,8 +16,14 @@ within c = head-within (c .args .h) (c .args .q)
 enum-told : tie.Need-enum-told
 enum-told c = search needs
 
-write-all-reply-requires : tie.Need-write-all-reply-requires
-write-all-reply-requires c κs = search needs
+slice-aggregate-write-either : tie.Need-slice-aggregate-write-either
+slice-aggregate-write-either c = search needs
+
+slice-aggregate-write-either-2 : tie.Need-slice-aggregate-write-either-2
+slice-aggregate-write-either-2 c = search needs
+
+write-either-requires : tie.Need-write-either-requires
+write-either-requires c κs = search needs
 
 enum-told-2 : tie.Need-enum-told-2
 enum-told-2 c = search needs
@@ -31,14 +37,29 @@ enum-told-3 c = search needs
 write-error-requires : tie.Need-write-error-requires
 write-error-requires c κs = search needs
 
+enum-told-4 : tie.Need-enum-told-4
+enum-told-4 c = search needs
+
+is-paused-requires : tie.Need-is-paused-requires
+is-paused-requires c κs = search needs
+
+slice-aggregate-write-either-3 : tie.Need-slice-aggregate-write-either-3
+slice-aggregate-write-either-3 c = search needs
+
+slice-aggregate-write-either-4 : tie.Need-slice-aggregate-write-either-4
+slice-aggregate-write-either-4 c = search needs
+
+write-either-requires-2 : tie.Need-write-either-requires-2
+write-either-requires-2 c κs = search needs
+
 same-length : tie.Need-same-length
 same-length c = search needs
 
 returns : tie.Need-returns
-unfolding headText
+unfolding headText allReplyText bytes
 returns c =
-    let s = c .before .before .before .before in
-    short (within (s .before .before .before)) (rw (s .enum-told .given .1) (c .before .before .write-all-reply .ensures))
+    let s = c .before .before .before .before .before .before .before in
+    short (within (s .before .before .before)) (rw (s .enum-told .given .1) (c .before .before .write-either .ensures))
 
 same-length-2 : tie.Need-same-length-2
 same-length-2 c = search needs
@@ -58,19 +79,37 @@ returns-3 c =
     let s = c .before .before .before .before in
     short (within (s .before .before .before)) (rw (s .enum-told3 .given .1) (c .before .before .write-error .ensures))
 
+same-length-4 : tie.Need-same-length-4
+same-length-4 c = search needs
+
+returns-4 : tie.Need-returns-4
+unfolding headText pauseText bytes
+returns-4 c =
+    let s = c .before .before .before .before .before .before .before in
+    short (within (s .before .before .before)) (rw (s .enum-told4 .given .1, ← c .before .before .before .before .before .is-paused .ensures) (c .before .before .write-either2 .ensures))
+
 pub write-head-question-spec : {M : Type 1} → statement M
 write-head-question-spec =
     tie.close
     (tie.spec
     enum-told
-    write-all-reply-requires
+    slice-aggregate-write-either
+    slice-aggregate-write-either-2
+    write-either-requires
     enum-told-2
     write-hex-requires
     enum-told-3
     write-error-requires
+    enum-told-4
+    is-paused-requires
+    slice-aggregate-write-either-3
+    slice-aggregate-write-either-4
+    write-either-requires-2
     same-length
     returns
     same-length-2
     returns-2
     same-length-3
-    returns-3)
+    returns-3
+    same-length-4
+    returns-4)

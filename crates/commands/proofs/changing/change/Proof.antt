@@ -55,7 +55,7 @@ enum-known-o-6 c = search needs
 
 change-head-requires : tie.Need-change-head-requires
 unfolding valueInRange
-change-head-requires c κs = (sound-length _ (c .before .before .before .before .before .pre .0), rw (c .before .before .o6 .given .1) at (c .before .before .before .before .before .pre .2))
+change-head-requires c κs = (c .before .before .before .before .before .pre .0, rw (c .before .before .o6 .given .1) at (c .before .before .before .before .before .pre .2))
 
 same-length : tie.Need-same-length
 same-length c = search needs

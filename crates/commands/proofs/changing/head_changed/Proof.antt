@@ -29,6 +29,12 @@ enum-known-o-3 c = search needs
 clear-flag-requires : tie.Need-clear-flag-requires
 clear-flag-requires c κs = leb-true _ 3 (rw (c .before .o3 .given .1) at (c .before .before .before .pre))
 
+enum-known-o-4 : tie.Need-enum-known-o-4
+enum-known-o-4 c = search needs
+
+with-pause-requires : tie.Need-with-pause-requires
+with-pause-requires c κs = search needs
+
 returns : tie.Need-returns
 unfolding headChanged
 returns c = rw (c .before .before .o .given .1, c .with-mode .ensures)
@@ -45,6 +51,10 @@ returns-4 : tie.Need-returns-4
 unfolding headChanged
 returns-4 c = rw (c .before .before .o3 .given .1, c .clear-flag .ensures)
 
+returns-5 : tie.Need-returns-5
+unfolding headChanged
+returns-5 c = rw (c .before .before .o4 .given .1, c .with-pause .ensures)
+
 pub head-changed-spec : {M : Type 1} → statement M
 head-changed-spec =
     tie.close
@@ -57,7 +67,10 @@ head-changed-spec =
     with-errors-requires
     enum-known-o-3
     clear-flag-requires
+    enum-known-o-4
+    with-pause-requires
     returns
     returns-2
     returns-3
-    returns-4)
+    returns-4
+    returns-5)

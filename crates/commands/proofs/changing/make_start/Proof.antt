@@ -3,8 +3,14 @@ use borrow.Author.Needs.{needs}
 use Rattle.commands.proofs.changing.make_start.Statement.{statement}
 use Rattle.commands.proofs.changing.make_start.Tie as tie
 
+read-head-requires : tie.Need-read-head-requires
+read-head-requires c κs = search needs
+
 motor-at-requires : tie.Need-motor-at-requires
 motor-at-requires c κs = search needs
+
+is-paused-requires : tie.Need-is-paused-requires
+is-paused-requires c κs = search needs
 
 course-of-requires : tie.Need-course-of-requires
 course-of-requires c κs = search needs
@@ -19,13 +25,19 @@ same-length : tie.Need-same-length
 same-length c = search needs
 
 returns : tie.Need-returns
-returns c = rw (c .before .before .put-motor .ensures, c .before .before .before .start .ensures, c .before .before .before .before .course-of .ensures, c .before .before .before .before .before .before .motor-at .ensures)
+returns c = 
+    let p = c .before .before in
+    let o = p .before .before in
+    let m = o .before .before .before in
+    rw (p .put-motor .ensures, p .before .start .ensures, o .course-of .ensures, o .before .is-paused .ensures, m .motor-at .ensures, m .before .before .read-head .ensures)
 
 pub make-start-spec : {M : Type 1} → statement M
 make-start-spec =
     tie.close
     (tie.spec
+    read-head-requires
     motor-at-requires
+    is-paused-requires
     course-of-requires
     start-requires
     put-motor-requires

@@ -15,6 +15,9 @@ enum-told-3 c = search needs
 enum-known-h : tie.Need-enum-known-h
 enum-known-h c = search needs
 
+enum-told-4 : tie.Need-enum-told-4
+enum-told-4 c = search needs
+
 returns : tie.Need-returns
 returns c = search needs
 
@@ -27,7 +30,10 @@ returns-3 c = search needs
 returns-4 : tie.Need-returns-4
 returns-4 c = rw (c .before .h .given .1)
 
+returns-5 : tie.Need-returns-5
+returns-5 c = search needs
+
 pub head-value-in-range-spec : {M : Type 1} → statement M
 head-value-in-range-spec =
     tie.close
-    (tie.spec enum-told enum-told-2 enum-told-3 enum-known-h returns returns-2 returns-3 returns-4)
+    (tie.spec enum-told enum-told-2 enum-told-3 enum-known-h enum-told-4 returns returns-2 returns-3 returns-4 returns-5)
