@@ -5,7 +5,7 @@ use mathlib.Core.List.{List, [], _∷_}
 use Prim.Native.Nat.{ℕ}
 use lib.ListN.{length}
 use Rattle.laws.specs.Sequences.{Library, Call, after, Beginning, fromFresh}
-use Rattle.laws.specs.Deeds.{Deed, starts, stops, speeds, sets, reads, ticks, rests, deed}
+use Rattle.laws.specs.Deeds.{Deed, starts, stops, speeds, sets, reads, ticks, pauses, rests, deed}
 use Rattle.laws.specs.Ledger.{countAt}
 use Rattle.laws.specs.Pulses.{tableNow, motorNow, travelNow}
 
@@ -26,6 +26,7 @@ toldBy h (speeds v) = h
 toldBy h (sets s) = h
 toldBy h (reads n) = record { contacts = n; read = 1 }
 toldBy h ticks = h
+toldBy h (pauses k) = h
 toldBy h rests = h
 
 -- what is told of channel c after a sequence of calls on a table

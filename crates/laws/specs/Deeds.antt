@@ -9,6 +9,8 @@ use Rattle.drive.specs.declared.Verdict.{Verdict}
 use Rattle.drive.specs.declared.Verdict.the-variants.{NoForm}
 use Rattle.line.specs.declared.Start.{Start}
 use Rattle.line.specs.declared.Setting.{Setting}
+use Rattle.line.specs.declared.HeadOrder.{HeadOrder}
+use Rattle.line.specs.declared.HeadOrder.the-variants.{Mode, AllReply, ClearErrors, ClearError, Pause}
 use Rattle.line.specs.declared.Order.{Order}
 use Rattle.line.specs.declared.Order.the-variants.{Go, Stop, StopAll, ChangeSpeed, Set, Ask, AskHead, ForHead}
 use Rattle.line.specs.declared.Parsed.{Parsed}
@@ -59,6 +61,8 @@ pub data Deed : Type 0 where
   reads : ℕ → Deed
   -- a tick
   ticks : Deed
+  -- 02 §3: PAUSE ON, 1, or PAUSE OFF, 0: what it makes of pause
+  pauses : ℕ → Deed
   -- a refused call, one of another channel, a read, or one of the head: it is nothing to the channel
   rests : Deed
 
@@ -66,8 +70,16 @@ pub data Deed : Type 0 where
 abbrev pub deedIf : Bool → Deed → Deed
 deedIf test d = cond test d rests
 
+-- what an order of the head is to any channel: nothing, but for the lines of pause
+abbrev pub headDeed : HeadOrder → Deed
+headDeed (Mode k) = rests
+headDeed (AllReply k) = rests
+headDeed ClearErrors = rests
+headDeed (ClearError e) = rests
+headDeed (Pause k) = pauses k
+
 -- what an order is to channel c: "A command naming channel x leaves the other fifteen records byte for byte; here only ASSTP and
--- AESTP, which name none, reach several."
+-- AESTP, which name none, reach several", and by 02 §3 PAUSE OFF.
 unfoldable pub deedOf : ℕ → Order → Deed
 deedOf c (Go x s) = deedIf (eqb x c) (starts s)
 deedOf c (Stop x flags) = deedIf (eqb x c) (stops flags)
@@ -76,7 +88,7 @@ deedOf c (ChangeSpeed x v) = deedIf (eqb x c) (speeds v)
 deedOf c (Set x s) = deedIf (eqb x c) (sets s)
 deedOf c (Ask x q) = rests
 deedOf c (AskHead q) = rests
-deedOf c (ForHead h) = rests
+deedOf c (ForHead h) = headDeed h
 
 -- what is carried out is to channel c what its order is; nothing carried out is nothing
 abbrev pub deedTaken : ℕ → Parsed → Deed
@@ -97,4 +109,5 @@ isTick (speeds v) = false
 isTick (sets s) = false
 isTick (reads n) = false
 isTick ticks = true
+isTick (pauses k) = false
 isTick rests = false

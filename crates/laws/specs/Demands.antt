@@ -31,6 +31,5 @@ pub record Demands (l : Library) : Type 0 where
   -- table", of each channel
   pub lasting : Lasting l
   pub pulses : (b : Beginning) (c : ℕ) → c ≤ 15 → (ks : List Call) → Demand3 l b c ks
-  -- "A drive to a target at distance D and speed v .. ends at tick D·1000/v rounded up."
-  pub lastTick : (b : Beginning) (c : ℕ) → c ≤ 15 → (ks : List Call) (k : Call) (p : ℕ) (later : List Call)
-      → LastTick l b c ks k p later
+  -- "A drive to a target at distance D and speed v .. ends at tick D·1000/v rounded up", counted from its release
+  pub lastTick : (b : Beginning) (c : ℕ) → c ≤ 15 → (ks : List Call) (p : ℕ) (later : List Call) → LastTick l b c ks p later

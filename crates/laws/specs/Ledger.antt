@@ -1,23 +1,26 @@
 -- What demand 3 adds up for a channel, from what is seen outside: which calls are accepted, the pulse buffers, and whether the
--- channel stands stopped. It knows no fraction.
+-- channel stands stopped. It knows no fraction, and which drives are held it knows from the accepted lines alone.
 use Prim.Native.Nat.{ℕ, zero, suc, _+_, _*_, _-_}
 use mathlib.Core.List.{List, [], _∷_}
-use mathlib.Core.Bool.{Bool, true, false, _&&_, not, cond}
+use mathlib.Core.Bool.{Bool, true, false, _&&_, _||_, not, cond}
 use lib.Dec.{eqb, ltb}
 use Rattle.digits.specs.Bytes.{part}
 use Rattle.digits.specs.Words.{word}
 use Rattle.digits.specs.Places.{origin, cw}
 use Rattle.record.specs.declared.Motor.{Motor}
 use Rattle.motor.specs.Sound.{busy}
+use Rattle.drive.specs.declared.Course.{Course}
+use Rattle.drive.specs.declared.Course.the-variants.{Stay, To, Along}
 use Rattle.drive.specs.Drives.{selectedSpeed, towards, contacted}
+use Rattle.pulses.specs.Ticks.{toTarget}
 use Rattle.line.specs.declared.Start.{Start}
 use Rattle.line.specs.declared.Start.the-variants.{Abs, Rel, Scan, Jog}
 use Rattle.line.specs.declared.Setting.{Setting}
 use Rattle.line.specs.declared.Setting.the-variants.{Preset, SetCwLimit, SetCcwLimit, Select, SetSpeed, SetSwitches, SetMotor}
-use Rattle.orders.specs.Settings.{directionOf, placeWritten, withSetting}
+use Rattle.orders.specs.Settings.{directionOf, placeWritten, courseOf, withSetting}
 use Rattle.table.specs.Layout.{motorAt}
 use Rattle.laws.specs.Sequences.{Library, Call, after}
-use Rattle.laws.specs.Deeds.{Deed, starts, stops, speeds, sets, reads, ticks, rests, deed, isTick}
+use Rattle.laws.specs.Deeds.{Deed, starts, stops, speeds, sets, reads, ticks, pauses, rests, deed, isTick}
 
 -- "sixteen signed 32-bit counts": the word of channel c in a pulse buffer
 abbrev pub countAt : List ℕ → ℕ → ℕ
@@ -38,10 +41,15 @@ against going n = cond (eqb going cw) (ccwPulses n) (cwPulses n)
 pub record Account : Type 0 where
   -- it lasts
   pub lasts : Bool
-  -- its ticks count: they add their speed and give pulses; here every drive's do
+  -- its ticks count: they add their speed and give pulses. 02 §3: those of a held drive do not, from an accepted start under pause
+  -- until an accepted PAUSE OFF
   pub counting : Bool
+  -- pause is on: after an accepted PAUSE ON, until an accepted PAUSE OFF
+  pub paused : Bool
   -- its direction, 1 CW, 2 CCW
   pub going : ℕ
+  -- where it goes, as its start asks
+  pub aim : Course
   -- its speed in force
   pub speed : ℕ
   -- S: "the speeds in force at its accepted ticks", added up
@@ -51,20 +59,27 @@ pub record Account : Type 0 where
 
 -- no drive yet
 abbrev pub noDrive : Account
-noDrive = record { lasts = false; counting = true; going = 0; speed = 0; sum = 0; pulses = 0 }
+noDrive = record { lasts = false; counting = true; paused = false; going = 0; aim = Stay; speed = 0; sum = 0; pulses = 0 }
 
--- a drive that begins in a direction at a speed
-abbrev pub newDrive : ℕ → ℕ → Account
-newDrive going speed = record { lasts = true; counting = true; going = going; speed = speed; sum = 0; pulses = 0 }
+-- a drive that begins in a direction, somewhere, at a speed; 02 §3: while pause is on, "an accepted start is a held drive"
+abbrev pub newDrive : Bool → ℕ → Course → ℕ → Account
+newDrive paused going aim speed =
+    record { lasts = true; counting = not paused; paused = paused; going = going; aim = aim; speed = speed; sum = 0; pulses = 0 }
 
 -- the account with another speed in force
 abbrev pub atSpeed : Account → ℕ → Account
-atSpeed a v = record { lasts = a .lasts; counting = a .counting; going = a .going; speed = v; sum = a .sum; pulses = a .pulses }
+atSpeed a v =
+    record { lasts = a .lasts; counting = a .counting; paused = a .paused; going = a .going; aim = a .aim; speed = v; sum = a .sum; pulses = a .pulses }
 
 -- the account after a tick that counts: its speed and its pulses n are added
 abbrev pub withTick : Account → ℕ → Account
 withTick a n =
-    record { lasts = a .lasts; counting = a .counting; going = a .going; speed = a .speed; sum = a .sum + a .speed; pulses = a .pulses + n }
+    record { lasts = a .lasts; counting = a .counting; paused = a .paused; going = a .going; aim = a .aim; speed = a .speed; sum = a .sum + a .speed; pulses = a .pulses + n }
+
+-- the account after PAUSE ON, 1, or PAUSE OFF, 0; 02 §3: "OFF releases all"
+abbrev pub pausing : Account → ℕ → Account
+pausing a k =
+    record { lasts = a .lasts; counting = a .counting || eqb k 0; paused = eqb k 1; going = a .going; aim = a .aim; speed = a .speed; sum = a .sum; pulses = a .pulses }
 
 -- a tick is one of the drive's: it lasts, and its ticks count
 abbrev pub takesTicks : Account → Bool
@@ -84,22 +99,27 @@ wayOf m (Rel w) = directionOf w
 wayOf m (Scan going) = going
 wayOf m (Jog going) = going
 
+-- where the drive of a motor goes, as the table has it: to its target, or on in its direction
+unfoldable pub courseIn : Motor → Course
+courseIn m = cond (toTarget m) (To (m .drive .target)) (Along (m .drive .going))
+
 -- what a deed on the motor m is to its account, with the pulses n of the channel's count: "A start takes the selected speed",
 -- "SPC replaces the speed in force", and a tick of the drive adds its speed and its pulses
 unfoldable pub booked : Motor → ℕ → Account → Deed → Account
 booked m n a (starts s) =
-    cond (setsOff m s) (newDrive (wayOf m s) (selectedSpeed m)) a
+    cond (setsOff m s) (newDrive (a .paused) (wayOf m s) (courseOf m s) (selectedSpeed m)) a
 booked m n a (stops flags) = a
 booked m n a (speeds v) = atSpeed a v
 booked m n a (sets s) = a
 booked m n a (reads contacts) = a
 booked m n a ticks = cond (takesTicks a) (withTick a n) a
+booked m n a (pauses k) = pausing a k
 booked m n a rests = a
 
 -- a drive ends where the channel stands stopped after a call
 abbrev pub closed : Motor → Account → Account
 closed m a =
-    record { lasts = a .lasts && busy m; counting = a .counting; going = a .going; speed = a .speed; sum = a .sum; pulses = a .pulses }
+    record { lasts = a .lasts && busy m; counting = a .counting; paused = a .paused; going = a .going; aim = a .aim; speed = a .speed; sum = a .sum; pulses = a .pulses }
 
 -- the account after one call on a table
 unfoldable pub entered : Library → ℕ → List ℕ → Account → Call → Account
@@ -150,6 +170,7 @@ travelled n j (speeds v) = j
 travelled n j (sets s) = resetBy j s
 travelled n j (reads contacts) = j
 travelled n j ticks = record { preset = j .preset; cw = j .cw + cwPulses n; ccw = j .ccw + ccwPulses n }
+travelled n j (pauses k) = j
 travelled n j rests = j
 
 -- the way of channel c after a sequence of calls on a table
@@ -168,6 +189,7 @@ settled m (speeds v) = m
 settled m (sets s) = withSetting m s
 settled m (reads n) = contacted m n
 settled m ticks = m
+settled m (pauses k) = m
 settled m rests = m
 
 -- the settings of channel c after a sequence of calls on a table

@@ -1,7 +1,8 @@
 -- Demand 2, what a call leaves byte for byte.
 use mathlib.Core.Path.{_≡_}
 use mathlib.Core.List.{List}
-use mathlib.Core.Bool.{Bool, true, false}
+use mathlib.Core.Bool.{Bool, true, false, _&&_}
+use lib.Dec.{eqb}
 use Prim.Native.Nat.{ℕ, _%_, _≤_}
 use Rattle.digits.specs.Bytes.{AllBytes, part}
 use Rattle.motor.specs.Sound.{busy, moving}
@@ -11,10 +12,10 @@ use Rattle.line.specs.declared.Parsed.the-variants.{Is}
 use Rattle.line.specs.Forms.{orderOf}
 use Rattle.table.specs.Layout.{recordAt, motorAt}
 use Rattle.laws.specs.Sequences.{Library, Call, command, reading, tick, after}
-use Rattle.laws.specs.Deeds.{stops, rests, names, deedOf}
+use Rattle.laws.specs.Deeds.{stops, pauses, rests, names, deedOf}
 use Rattle.laws.specs.Numbers.{isCommand}
 
--- an order of the head: LOC, REM, ALL_REP EN and DS, ERRC and ERRCe
+-- an order of the head: LOC, REM, ALL_REP EN and DS, ERRC and ERRCe, PAUSE ON and OFF
 unfoldable pub ofHead : Order → Bool
 ofHead (Go x s) = false
 ofHead (Stop x flags) = false
@@ -30,13 +31,17 @@ pub record Neighbours (l : Library) : Type 0 where
   -- "A command naming channel x leaves the other fifteen records byte for byte"
   pub others : (t line reply : List ℕ) (o : Order) (x d : ℕ) → orderOf line ≡ Is o → names x o ≡ true → (d ≡ x → ⊥)
       → recordAt (l .command t line reply .table) d ≡ recordAt t d
-  -- "here only ASSTP and AESTP, which name none, reach several": a line that is nothing to a channel leaves its record
+  -- "here only ASSTP and AESTP, which name none, reach several", and by 02 §3 PAUSE OFF: a line that is nothing to a channel leaves its
+  -- record
   pub unreached : (t line reply : List ℕ) (o : Order) (d : ℕ) → orderOf line ≡ Is o → deedOf d o ≡ rests
       → recordAt (l .command t line reply .table) d ≡ recordAt t d
   -- ASSTP, AESTP, and "a stop on a stopped motor", leave a record that stands stopped; the table is bytes, as memory is
   pub stopped : (t line reply : List ℕ) (o : Order) (flags d : ℕ) → AllBytes t → d ≤ 15 → orderOf line ≡ Is o → deedOf d o ≡ stops flags
       → busy (motorAt t d) ≡ false → recordAt (l .command t line reply .table) d ≡ recordAt t d
-  -- a tick leaves that of a motor that does not move
+  -- PAUSE ON leaves all sixteen, and PAUSE OFF those that are not held
+  pub pausing : (t line reply : List ℕ) (o : Order) (k d : ℕ) → AllBytes t → d ≤ 15 → orderOf line ≡ Is o → deedOf d o ≡ pauses k
+      → (eqb k 0 && motorAt t d .drive .held) ≡ false → recordAt (l .command t line reply .table) d ≡ recordAt t d
+  -- a tick leaves that of a motor that does not move: one that stands, or is held
   pub unticked : (t p : List ℕ) (d : ℕ) → AllBytes t → d ≤ 15 → moving (motorAt t d) ≡ false → recordAt (l .tick t p .table) d ≡ recordAt t d
   -- a switch reading leaves every record but its channel's
   pub readings : (t : List ℕ) (c n d : ℕ) → (d ≡ c → ⊥) → recordAt (l .reading t c n .table) d ≡ recordAt t d

@@ -1,24 +1,23 @@
 -- Demand 3, over any sequence of calls after a fresh one, and when a drive ends.
 use mathlib.Core.Path.{_≡_}
 use mathlib.Core.List.{List}
-use mathlib.Core.Bool.{Bool, true, false}
+use mathlib.Core.Bool.{Bool, true, false, not}
 use Prim.Native.Nat.{ℕ, _+_, _*_, _%_, _≤_, _<_}
 use lib.ListN.{length}
 use Rattle.digits.specs.Places.{ahead}
 use Rattle.record.specs.declared.Motor.{Motor}
-use Rattle.record.specs.Record.{freshMotor}
+use Rattle.record.specs.Record.{freshMotor, letGo}
 use Rattle.motor.specs.Switches.{room, blocked}
 use Rattle.motor.specs.Sound.{busy, moving}
 use Rattle.drive.specs.declared.Course.the-variants.{To}
-use Rattle.drive.specs.Drives.{lsend, selectedSpeed, towards}
+use Rattle.drive.specs.Drives.{lsend}
 use Rattle.pulses.specs.Ticks.{roundedUp, toTarget, distanceLeft, roomLeft}
 use Rattle.line.specs.declared.Start.{Start}
-use Rattle.orders.specs.Settings.{courseOf}
-use Rattle.table.specs.Layout.{motorAt}
+use Rattle.table.specs.Layout.{headOf, paused, motorAt}
 use Rattle.table.specs.Sound.{soundTable}
 use Rattle.laws.specs.Sequences.{Library, Call, tick, after, run, Beginning, fromFresh, ran, never}
-use Rattle.laws.specs.Deeds.{Deed, starts, stops, speeds, sets, reads, ticks, rests, deed}
-use Rattle.laws.specs.Ledger.{countAt, cwPulses, ccwPulses, against, Account, noDrive, takesTicks, setsOff, entered, account, ticksIn, Travel, noTravel, travel, settings}
+use Rattle.laws.specs.Deeds.{Deed, starts, stops, speeds, sets, reads, ticks, pauses, rests, deed}
+use Rattle.laws.specs.Ledger.{countAt, cwPulses, ccwPulses, against, Account, noDrive, takesTicks, setsOff, courseIn, account, ticksIn, Travel, noTravel, travel, settings}
 
 -- "the table is sound" after any sequence, "so 6 never comes"
 pub record Lasting (l : Library) : Type 0 where
@@ -50,25 +49,34 @@ module _ (l : Library) (b : Beginning) (c : ℕ) (ks : List Call) where
   motorNext k = motorAt (after l tableNow k .table) c
 
   -- why a drive ends with a call k, and with which end flags: a stop; a switch reading after which "the switch of its direction is
-  -- now active and enabled"; a tick that reaches the target; or one that uses the room up
+  -- now active and enabled"; a tick that reaches the target; or one that uses the room up. No tick ends a held drive.
   pub data Ends (k : Call) : Type 0 where
     byStop : (flags : ℕ) → deed c tableNow k ≡ stops flags → motorNext k .ended ≡ flags → Ends k
     bySwitch : (n : ℕ) → deed c tableNow k ≡ reads n → blocked (motorNow .drive .going) (motorNext k) ≡ true → motorNext k .ended ≡ lsend → Ends k
-    byTarget : deed c tableNow k ≡ ticks → toTarget motorNow ≡ true → motorNext k .place ≡ motorNow .drive .target → motorNext k .ended ≡ 0 → Ends k
-    byRoom : deed c tableNow k ≡ ticks → room (motorNow .drive .going) (motorNext k) ≡ 0 → motorNext k .ended ≡ lsend → Ends k
+    byTarget : deed c tableNow k ≡ ticks → takesTicks accountNow ≡ true → toTarget motorNow ≡ true → motorNext k .place ≡ motorNow .drive .target → motorNext k .ended ≡ 0 → Ends k
+    byRoom : deed c tableNow k ≡ ticks → takesTicks accountNow ≡ true → room (motorNow .drive .going) (motorNext k) ≡ 0 → motorNext k .ended ≡ lsend → Ends k
 
   pub record Demand3 : Type 0 where
     -- "A thousand times the pulses given never exceeds that sum"
     pub neverMore : 1000 * accountNow .pulses ≤ accountNow .sum
     -- "and while the drive lasts the sum is less than a thousand above it"
     pub neverLess : accountNow .lasts ≡ true → accountNow .sum < 1000 * accountNow .pulses + 1000
-    -- "each drive that demand 2 starts": an accepted start drives, and nothing drives but such a drive
-    pub starting : (k : Call) (s : Start) → deed c tableNow k ≡ starts s → setsOff motorNow s ≡ true → busy (motorNext k) ≡ true
+    -- "each drive that demand 2 starts": an accepted start drives, and nothing drives but such a drive; 02 §3: it moves at once unless
+    -- pause is on
+    pub starting : (k : Call) (s : Start) → deed c tableNow k ≡ starts s → setsOff motorNow s ≡ true
+        → (busy (motorNext k) ≡ true) × (moving (motorNext k) ≡ not (accountNow .paused))
     pub lasting : accountNow .lasts ≡ busy motorNow
     -- and the motor moves exactly while the drive's ticks count
     pub counting : takesTicks accountNow ≡ moving motorNow
-    -- "the speeds in force": the account's speed is the one that the table holds
+    -- what the lines have made of pause is what the table holds
+    pub pause : accountNow .paused ≡ paused (headOf tableNow)
+    -- 02 §3: "OFF releases all": what was busy moves, and all else of its drive stays as it was; ON changes nothing of it
+    pub releasing : (k : Call) → deed c tableNow k ≡ pauses 0 → (moving (motorNext k) ≡ busy motorNow) × (motorNext k .drive ≡ letGo (motorNow .drive))
+    pub pausing : (k : Call) → deed c tableNow k ≡ pauses 1 → motorNext k ≡ motorNow
+    -- "the speeds in force": the account's speed is the one that the table holds, and so are its direction and where it goes
     pub speed : accountNow .lasts ≡ true → accountNow .speed ≡ motorNow .drive .speed
+    pub direction : accountNow .lasts ≡ true → accountNow .going ≡ motorNow .drive .going
+    pub aim : accountNow .lasts ≡ true → accountNow .aim ≡ courseIn motorNow
     -- "CW positive": the pulses of a drive go its way
     pub oneWay : accountNow .lasts ≡ true → (p : List ℕ) → length p ≡ 64 → against (accountNow .going) (countAt (l .tick tableNow p .pulses) c) ≡ 0
     -- a drive lasts until something ends it, and a stop or an active switch does: "A stop ends the drive at once"
@@ -80,7 +88,7 @@ module _ (l : Library) (b : Beginning) (c : ℕ) (ks : List Call) where
         (cwPulses n + ccwPulses n ≤ roomLeft motorNow) × (toTarget motorNow ≡ true → cwPulses n + ccwPulses n ≤ distanceLeft motorNow)
     -- the end flags stay until the next start
     pub flags : (k : Call) → busy motorNow ≡ false → busy (motorNext k) ≡ false → motorNext k .ended ≡ motorNow .ended
-    -- "A motor that stands stopped when the tick comes gets none", nor does one whose drive's ticks do not count
+    -- "A motor that stands stopped when the tick comes gets none", nor does a held one, whose drive's ticks do not count
     pub none : takesTicks accountNow ≡ false → (p : List ℕ) → length p ≡ 64 → countAt (l .tick tableNow p .pulses) c ≡ 0
     -- "Each channel's position is its last accepted preset, or zero, plus the CW pulses given since, less the CCW pulses."
     pub position : motorNow .place + travelNow .ccw ≡ travelNow .preset + travelNow .cw
@@ -101,38 +109,36 @@ disturbs (speeds v) = true
 disturbs (sets s) = false
 disturbs (reads n) = true
 disturbs ticks = false
+disturbs (pauses k) = false
 disturbs rests = false
 
--- The drive begins with an accepted start k of channel c to the place p; `later` are the calls after it, any but such.
-module _ (l : Library) (b : Beginning) (c : ℕ) (ks : List Call) (k : Call) (p : ℕ) (later : List Call) where
+-- 02 §3: "01's last-tick formula counts from release". After the calls ks a drive to the place p lasts of which no tick has counted yet:
+-- it is held, or it was just released or started. v is the speed in force then; `later` are the calls that follow, any but such.
+module _ (l : Library) (b : Beginning) (c : ℕ) (ks : List Call) (p : ℕ) (later : List Call) where
   -- D, and D·1000/v rounded up
   abbrev pub distance : ℕ
-  distance = ahead (towards (motorNow l b c ks) p) (motorNow l b c ks .place) p
+  distance = ahead (accountNow l b c ks .going) (motorNow l b c ks .place) p
 
   abbrev pub lastTick : ℕ
-  lastTick = roundedUp (distance * 1000) (selectedSpeed (motorNow l b c ks))
+  lastTick = roundedUp (distance * 1000) (accountNow l b c ks .speed)
 
   pub record Undisturbed : Type 0 where
-    pub start : Start
-    pub begins : deed c (ran l b ks) k ≡ starts start
-    pub aimed : courseOf (motorNow l b c ks) start ≡ To p
-    pub within : distance ≤ room (towards (motorNow l b c ks) p) (motorNow l b c ks)
-    pub alone : never l (λ t j. disturbs (deed c t j)) (after l (ran l b ks) k .table) later ≡ true
+    pub lasts : accountNow l b c ks .lasts ≡ true
+    pub unticked : accountNow l b c ks .sum ≡ 0
+    pub aimed : accountNow l b c ks .aim ≡ To p
+    pub within : distance ≤ room (accountNow l b c ks .going) (motorNow l b c ks)
+    pub alone : never l (λ t j. disturbs (deed c t j)) (ran l b ks) later ≡ true
 
-  -- the table after `later`
+  -- the table and the account after `later`
   abbrev pub tableLater : List ℕ
-  tableLater = run l (after l (ran l b ks) k .table) later
-
-  -- the account after the start, and after `later`
-  abbrev pub accountBegun : Account
-  accountBegun = entered l c (ran l b ks) (accountNow l b c ks) k
+  tableLater = run l (ran l b ks) later
 
   abbrev pub accountLater : Account
-  accountLater = account l c (after l (ran l b ks) k .table) accountBegun later
+  accountLater = account l c (ran l b ks) (accountNow l b c ks) later
 
   -- how many of the ticks in `later` count
   abbrev pub ticksLater : ℕ
-  ticksLater = ticksIn l c (after l (ran l b ks) k .table) accountBegun later
+  ticksLater = ticksIn l c (ran l b ks) (accountNow l b c ks) later
 
   pub record LastTick : Type 0 where
     -- it drives as long as fewer ticks that count have come

@@ -13,19 +13,19 @@ use Rattle.line.specs.declared.Setting.the-variants.{Preset, SetCwLimit, SetCcw
 use Rattle.line.specs.declared.Question.{Question}
 use Rattle.line.specs.declared.Question.the-variants.{AskPosition, AskCwLimit, AskCcwLimit, AskSelected, AskSpeed, AskSwitches, AskMotor, AskStatus}
 use Rattle.line.specs.declared.HeadOrder.{HeadOrder}
-use Rattle.line.specs.declared.HeadOrder.the-variants.{Mode, AllReply, ClearErrors, ClearError}
+use Rattle.line.specs.declared.HeadOrder.the-variants.{Mode, AllReply, ClearErrors, ClearError, Pause}
 use Rattle.line.specs.declared.Order.{Order}
 use Rattle.line.specs.declared.Order.the-variants.{Go, Stop, StopAll, ChangeSpeed, Set, Ask, AskHead, ForHead}
 use Rattle.line.specs.declared.Parsed.{Parsed}
 use Rattle.line.specs.declared.Parsed.the-variants.{Is, Nothing}
 use Rattle.orders.specs.Settings.{placeWritten}
 use Rattle.laws.specs.Sequences.{Library, Call, after, command, After, run, Beginning, ran, never}
-use Rattle.laws.specs.Deeds.{Deed, starts, stops, speeds, sets, reads, ticks, rests, orderTaken, deed}
+use Rattle.laws.specs.Deeds.{Deed, starts, stops, speeds, sets, reads, ticks, pauses, rests, orderTaken, deed}
 use Rattle.laws.specs.Ledger.{countAt}
 use mathlib.Core.Path.{_≡_}
 use lib.ListN.{length, getD}
 use Rattle.digits.specs.Bytes.{put}
-use Rattle.line.specs.declared.HeadQuestion.the-variants.{AskAllReply}
+use Rattle.line.specs.declared.HeadQuestion.the-variants.{AskAllReply, AskPause}
 use Rattle.line.specs.Forms.{orderOf}
 use Rattle.table.specs.Layout.{headOf, motorAt}
 
@@ -79,18 +79,20 @@ changedBy (Select k) n ticks = false
 changedBy (SetSpeed k v) n ticks = false
 changedBy (SetSwitches q r) n ticks = false
 changedBy (SetMotor q) n ticks = false
+changedBy s n (pauses k) = false
 changedBy s n rests = false
 
 -- a call changes a setting of channel x
 unfoldable pub changes : Library → ℕ → Setting → List ℕ → Call → Bool
 changes l x s t k = changedBy s (countAt (after l t k .buffer) x) (deed x t k)
 
--- the field of the head that an order writes, numbered: 0 the mode, 1 all-reply, 2 the error flags
+-- the field of the head that an order writes, numbered: 0 the mode, 1 all-reply, 2 the error flags, 3 pause
 unfoldable pub headTopic : HeadOrder → ℕ
 headTopic (Mode k) = 0
 headTopic (AllReply k) = 1
 headTopic ClearErrors = 2
 headTopic (ClearError e) = 2
+headTopic (Pause k) = 3
 
 -- an order writes the field numbered i
 unfoldable pub writesField : ℕ → Order → Bool
@@ -138,3 +140,8 @@ module _ (l : Library) (b : Beginning) (ks : List Call) (k : Call) (later : List
         → headOf (run l tableSet later) .mode ≡ n
     pub mode : (n x : ℕ) → orderTaken (ran l b ks) k ≡ Is (ForHead (Mode n)) → never l (changesHead 0) tableSet later ≡ true
         → orderOf line ≡ Is (Ask x AskStatus) → getD (after l (run l tableSet later) (command line reply) .buffer) 0 0 ≡ modeLetter n
+    -- 02 §3: PAUSE ON and OFF, until the next one of them that is accepted
+    pub pauseHeld : (n : ℕ) → orderTaken (ran l b ks) k ≡ Is (ForHead (Pause n)) → never l (changesHead 3) tableSet later ≡ true
+        → headOf (run l tableSet later) .pause ≡ n
+    pub pause : (n : ℕ) → orderTaken (ran l b ks) k ≡ Is (ForHead (Pause n)) → never l (changesHead 3) tableSet later ≡ true
+        → orderOf line ≡ Is (AskHead AskPause) → after l (run l tableSet later) (command line reply) ≡ answered (cond (eqb n 1) (bytes "ON") (bytes "OFF"))

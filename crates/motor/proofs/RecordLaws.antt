@@ -11,7 +11,7 @@ use Rattle.digits.specs.Bytes.{AllBytes}
 use Rattle.record.specs.declared.Motor.{Motor}
 use Rattle.record.specs.Record.{motorOf, recordOf, restZero}
 use Rattle.record.proofs.RoundTrip.{FitsRecord, FitsBytes, FitsWay, way-fits, way-below, written-read, read-written, record-length, record-bytes, rest-clear}
-use Rattle.motor.specs.Sound.{busy, soundMotor, soundRecord}
+use Rattle.motor.specs.Sound.{busy, soundMotor, soundRecord, heldRight, soundUnder}
 use Rattle.motor.proofs.SoundLaws.{and-l, and-r, sound-bounds, sound-busy, sound-standing}
 
 -- The speed in force of a sound motor is 5,000,000 at most, driving or not.
@@ -50,6 +50,15 @@ record-sound m s = rw (record-length m, sound-written-read m s, s, rest-clear m)
 
 pub sound-record-bytes : (m : Motor) → soundMotor m ≡ true → AllBytes (recordOf m)
 sound-record-bytes m s = record-bytes m (sound-fits-bytes m s)
+
+-- A record that is sound in a table is sound by itself, and what is held in it is held under pause.
+pub under-record : (paused : Bool) (b : List ℕ) → soundUnder paused b ≡ true → soundRecord b ≡ true
+unfolding soundUnder
+under-record paused b s = and-l (soundRecord b) _ s
+
+pub under-held : (paused : Bool) (b : List ℕ) → soundUnder paused b ≡ true → heldRight paused (motorOf b) ≡ true
+unfolding soundUnder
+under-held paused b s = and-r (soundRecord b) _ s
 
 pub record-motor-sound : (b : List ℕ) → soundRecord b ≡ true → soundMotor (motorOf b) ≡ true
 unfolding soundRecord

@@ -17,7 +17,7 @@ use Rattle.record.specs.Record.{motorOf, recordOf, freshMotor}
 use Rattle.record.proofs.RoundTrip.{record-length}
 use Rattle.motor.specs.Sound.{soundMotor, soundRecord, heldRight, soundUnder}
 use Rattle.motor.proofs.SoundLaws.{and-l, and-r}
-use Rattle.motor.proofs.RecordLaws.{record-motor-sound}
+use Rattle.motor.proofs.RecordLaws.{record-motor-sound, under-record, under-held}
 use Rattle.table.specs.Layout.{tableSize, headOf, paused, recordStart, recordAt, records, motorAt, withMotor, withMotors, freshTable}
 use Rattle.table.specs.Sound.{soundHead, soundTable}
 use Rattle.table.proofs.PieceLaws.{every-each, each-every, flat-more, flat-length, gather-length, put-next}
@@ -105,16 +105,17 @@ pub sound-length : (t : List ℕ) → soundTable t ≡ true → length t ≡ tab
 unfolding soundTable
 sound-length t s = eqb-true (length t) tableSize (and-l _ (soundHead t) (and-l _ (every (soundUnder (paused (headOf t))) (records t)) s))
 
+pub sound-records : (t : List ℕ) → soundTable t ≡ true → every (soundUnder (paused (headOf t))) (records t) ≡ true
+unfolding soundTable
+sound-records t s = and-r (eqb (length t) tableSize && soundHead t) _ s
+
 sound-under-at : (t : List ℕ) (c : ℕ) → soundTable t ≡ true → c ≤ 15 → soundUnder (paused (headOf t)) (recordAt t c) ≡ true
-unfolding soundTable part
+unfolding part
 sound-under-at t c s h =
-    let judged = soundUnder (paused (headOf t)) in
-    let all = and-r (eqb (length t) tableSize && soundHead t) (every judged (records t)) s in
-    rw (← drop-drop (64 * c) 64 t) (every-each judged 64 16 (drop 64 t) c all (omega arith))
+    rw (← drop-drop (64 * c) 64 t) (every-each (soundUnder (paused (headOf t))) 64 16 (drop 64 t) c (sound-records t s) (omega arith))
 
 pub sound-record-at : (t : List ℕ) (c : ℕ) → soundTable t ≡ true → c ≤ 15 → soundRecord (recordAt t c) ≡ true
-unfolding soundUnder
-sound-record-at t c s h = and-l (soundRecord (recordAt t c)) _ (sound-under-at t c s h)
+sound-record-at t c s h = under-record (paused (headOf t)) (recordAt t c) (sound-under-at t c s h)
 
 pub sound-motor-at : (t : List ℕ) (c : ℕ) → soundTable t ≡ true → c ≤ 15 → soundMotor (motorAt t c) ≡ true
 unfolding motorAt
@@ -122,8 +123,8 @@ sound-motor-at t c s h = record-motor-sound (recordAt t c) (sound-record-at t c 
 
 -- What is held in it is held under pause.
 pub sound-held-at : (t : List ℕ) (c : ℕ) → soundTable t ≡ true → c ≤ 15 → heldRight (paused (headOf t)) (motorAt t c) ≡ true
-unfolding soundUnder motorAt
-sound-held-at t c s h = and-r (soundRecord (recordAt t c)) _ (sound-under-at t c s h)
+unfolding motorAt
+sound-held-at t c s h = under-held (paused (headOf t)) (recordAt t c) (sound-under-at t c s h)
 
 pub sound-head-of : (t : List ℕ) → soundTable t ≡ true → soundHead t ≡ true
 unfolding soundTable
