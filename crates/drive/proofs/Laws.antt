@@ -8,8 +8,8 @@ use Rattle.record.specs.declared.Drive.{Drive}
 use Rattle.record.specs.declared.Motor.{Motor}
 use Rattle.record.specs.Record.{recordOf, withDrive, letGo, standing}
 use Rattle.record.proofs.RoundTrip.{standing-zero}
-use Rattle.motor.specs.Sound.{busy, soundMotor}
-use Rattle.motor.proofs.SoundLaws.{sound-standing}
+use Rattle.motor.specs.Sound.{busy, moving, soundMotor}
+use Rattle.motor.proofs.SoundLaws.{and-true, sound-standing}
 use Rattle.drive.specs.Drives.{released, stopped}
 
 -- A drive that is stopped leaves nothing behind, the fraction least of all; a stop on a stopped motor changes nothing.
@@ -48,3 +48,20 @@ released-drive m = go (m .drive .held) refl
 pub released-free : (m : Motor) → m .drive .held ≡ false → released m ≡ m
 unfolding released
 released-free m e = rw e
+
+-- A release changes that and nothing else, and so does a second one nothing.
+pub released-as : (m : Motor) → released m ≡ withDrive m (m .ended) (letGo (m .drive))
+unfolding released
+released-as m = go (m .drive .held) refl
+  where
+    go : (t : Bool) → m .drive .held ≡ t → cond t (withDrive m (m .ended) (letGo (m .drive))) m ≡ withDrive m (m .ended) (letGo (m .drive))
+    go true e = refl
+    go false e = ap (λ (d : Drive). withDrive m (m .ended) d) (free (m .drive) e)
+
+pub released-again : (m : Motor) → released (released m) ≡ released m
+released-again m = released-free (released m) (rw (released-drive m))
+
+-- What is released moves where it was busy.
+pub released-moves : (m : Motor) → moving (released m) ≡ busy m
+unfolding moving
+released-moves m = rw (released-drive m) (and-true (busy m))

@@ -1,6 +1,6 @@
 -- The account of a channel's drives, deed by deed: what is booked from outside is what the motor holds. Assumes nothing.
 use mathlib.Core.Path.{_≡_, refl, sym, ap, subst, _∙_}
-use mathlib.Core.Bool.{Bool, true, false, _&&_, _||_, cond, false≢true, and-false, and-self}
+use mathlib.Core.Bool.{Bool, true, false, _&&_, _||_, cond, false≢true, and-true, and-false, and-self}
 use mathlib.Core.Logic.{_⊎_, inl, inr, ⊎-elim}
 use Prim.Native.Nat.{ℕ, _+_, _*_, _-_, _≤_}
 use native.Mathlib.Omega.{arith}
@@ -11,50 +11,50 @@ use Rattle.record.specs.declared.Motor.{Motor}
 use Rattle.record.specs.Record.{standing}
 use Rattle.motor.specs.Switches.{blocked}
 use Rattle.motor.specs.Sound.{busy, moving, soundMotor}
-use Rattle.motor.proofs.SoundLaws.{sound-bounds}
+use Rattle.motor.proofs.SoundLaws.{or-true, or-false, sound-bounds}
 use Rattle.motor.proofs.RoomLaws.{moved-none}
+use Rattle.drive.specs.declared.Course.{Course}
 use Rattle.drive.specs.declared.Course.the-variants.{Beyond, To}
 use Rattle.drive.specs.declared.Verdict.the-variants.{Done}
 use Rattle.pulses.specs.declared.Ticked.{Ticked}
-use Rattle.drive.specs.Drives.{lsend, selectedSpeed, courseTo, towards, judgeStart, launched, started, endedWith, stopped, speedChanged, contacted, switchRead}
+use Rattle.drive.specs.Drives.{lsend, selectedSpeed, courseTo, towards, judgeStart, launched, started, released, endedWith, stopped, speedChanged, contacted, switchRead}
 use Rattle.pulses.specs.Ticks.{tickSpeed, tickMotor}
 use Rattle.motor.proofs.MovingLaws.{moving-busy, idle-still, busy-moves, moving-drive, speed-moves}
 use Rattle.pulses.proofs.Laws.{speed-in-force, stopped-given-none}
-use Rattle.drive.proofs.Laws.{stopped-stands, stopped-again}
-use Rattle.pulses.proofs.TickLaws.{carried, never-early, drive-stays, moving-stays}
+use Rattle.drive.proofs.Laws.{stopped-stands, stopped-again, released-drive, released-moves}
+use Rattle.pulses.proofs.TickLaws.{carried, never-early, SameDrive, drive-stays, moving-stays}
 use Rattle.drive.proofs.KeptSound.{towards-ahead}
 use Rattle.line.specs.declared.Written.{Written}
 use Rattle.line.specs.declared.Start.{Start}
 use Rattle.line.specs.declared.Start.the-variants.{Abs, Rel, Scan, Jog}
-use Rattle.line.specs.declared.Setting.{Setting}
-use Rattle.line.specs.declared.Setting.the-variants.{Preset, SetCwLimit, SetCcwLimit, Select, SetSpeed, SetSwitches, SetMotor}
 use Rattle.line.specs.Made.{direction, startMade}
 use Rattle.orders.specs.Settings.{directionOf, courseOf, withSetting}
-use Rattle.laws.specs.Deeds.{Deed, starts, stops, speeds, sets, reads, ticks, rests}
-use Rattle.laws.specs.Ledger.{Account, newDrive, atSpeed, withTick, takesTicks, setsOff, wayOf, booked, closed}
-use Rattle.laws.proofs.DeedLaws.{performed, Fits, fits-start, fits-speed}
+use Rattle.laws.specs.Deeds.{Deed, starts, stops, speeds, sets, reads, ticks, pauses, rests}
+use Rattle.laws.specs.Ledger.{Account, newDrive, atSpeed, withTick, pausing, takesTicks, setsOff, wayOf, courseIn, booked, closed}
+use Rattle.laws.proofs.DeedLaws.{performed, pausedBy, Fits, fits-start, fits-speed, set-drive}
 
--- a motor that has just been started in a direction: it drives, at the selected speed, with fraction 0
-pub data Leaves (m : Motor) (going : ℕ) : Motor → Type 0 where
-  leaves : (kind target : ℕ) → 1 ≤ going → Leaves m going (launched m going kind target)
+-- a motor that has just been started in a direction on a course: it drives, at the selected speed, with fraction 0
+pub data Leaves (q : Bool) (m : Motor) (going : ℕ) (c : Course) : Motor → Type 0 where
+  leaves : (kind target : ℕ) → 1 ≤ going → courseIn (launched q m going kind target) ≡ c → Leaves q m going c (launched q m going kind target)
 
 -- A start to another place that is accepted leaves towards it; one to the place where the motor stands changes nothing.
-module _ (m : Motor) (going p n : ℕ) where
+module _ (q : Bool) (m : Motor) (going p n : ℕ) where
   to-leaves : eqb (moved going p n) (m .place) ≡ false → judgeStart m (courseTo m going p n) ≡ Done
-      → Leaves m (towards m (moved going p n)) (started m (courseTo m going p n))
-  unfolding courseTo judgeStart started
+      → Leaves q m (towards m (moved going p n)) (courseTo m going p n) (started q m (courseTo m going p n))
+  unfolding courseTo judgeStart started courseIn
   to-leaves e = rw e (go (isPosition (moved going p n)))
     where
-      q : ℕ
-      q = moved going p n
+      to : ℕ
+      to = moved going p n
 
-      go : (b : Bool) → judgeStart m (cond b (To q) Beyond) ≡ Done → Leaves m (towards m q) (started m (cond b (To q) Beyond))
-      go true h = leaves 1 q (towards-ahead m q e .0)
+      go : (b : Bool) → judgeStart m (cond b (To to) Beyond) ≡ Done
+          → Leaves q m (towards m to) (cond b (To to) Beyond) (started q m (cond b (To to) Beyond))
+      go true h = leaves 1 to (towards-ahead m to e .0) refl
       go false h =
           let never : false ≡ true = cc in
           absurd (false≢true never)
 
-  to-stays : eqb (moved going p n) (m .place) ≡ true → started m (courseTo m going p n) ≡ m
+  to-stays : eqb (moved going p n) (m .place) ≡ true → started q m (courseTo m going p n) ≡ m
   unfolding courseTo started
   to-stays e = rw e
 
@@ -67,7 +67,7 @@ two-ways going h = go (eqb going cw) refl h
     go false e h = inr (eqb-true going ccw h)
 
 -- A place some pulses away is another place, and lies in the direction that leads there.
-module _ (m : Motor) (going n : ℕ) (s : soundMotor m ≡ true) (h : 1 ≤ n) (d : direction going ≡ true) where
+module _ (q : Bool) (m : Motor) (going n : ℕ) (s : soundMotor m ≡ true) (h : 1 ≤ n) (d : direction going ≡ true) where
   away : eqb (moved going (m .place) n) (m .place) ≡ false
   away = go (eqb going cw)
     where
@@ -83,8 +83,9 @@ module _ (m : Motor) (going n : ℕ) (s : soundMotor m ≡ true) (h : 1 ≤ n) (
       go (inl e) = rw (e, lt-ltb (m .place) (m .place + n) (omega arith))
       go (inr e) = rw (e, le-ltb (m .place) (m .place - n) (omega arith))
 
-  by-leaves : judgeStart m (courseTo m going (m .place) n) ≡ Done → Leaves m going (started m (courseTo m going (m .place) n))
-  by-leaves j = rw there at (to-leaves m going (m .place) n away j)
+  by-leaves : judgeStart m (courseTo m going (m .place) n) ≡ Done
+      → Leaves q m going (courseTo m going (m .place) n) (started q m (courseTo m going (m .place) n))
+  by-leaves j = rw there at (to-leaves q m going (m .place) n away j)
 
 -- A sign is a direction.
 sign-direction : (w : Written) → direction (directionOf w) ≡ true
@@ -95,30 +96,32 @@ sign-direction w = go (w .minus)
     go false = refl
 
 -- An accepted start that sets off leaves in the direction that it asks for.
-pub off-leaves : (m : Motor) (s : Start) → soundMotor m ≡ true → judgeStart m (courseOf m s) ≡ Done → startMade s ≡ true
-    → setsOff m s ≡ true → Leaves m (wayOf m s) (started m (courseOf m s))
+pub off-leaves : (q : Bool) (m : Motor) (s : Start) → soundMotor m ≡ true → judgeStart m (courseOf m s) ≡ Done → startMade s ≡ true
+    → setsOff m s ≡ true → Leaves q m (wayOf m s) (courseOf m s) (started q m (courseOf m s))
 unfolding setsOff wayOf
-off-leaves m (Abs w) s h d e = to-leaves m (directionOf w) origin (w .digits) (not-true _ e) h
-off-leaves m (Rel w) s h d e =
-    by-leaves m (directionOf w) (w .digits) s (omega (arith, eqb-false (w .digits) 0 (not-true _ e))) (sign-direction w) h
-off-leaves m (Scan going) s h d e = unfold started in leaves 0 origin (⊎-elim (λ q. omega (arith, q)) (λ q. omega (arith, q)) (two-ways going d))
-off-leaves m (Jog going) s h d e = by-leaves m going 1 s (omega arith) d h
+off-leaves q m (Abs w) s h d e = to-leaves q m (directionOf w) origin (w .digits) (not-true _ e) h
+off-leaves q m (Rel w) s h d e =
+    by-leaves q m (directionOf w) (w .digits) s (omega (arith, eqb-false (w .digits) 0 (not-true _ e))) (sign-direction w) h
+off-leaves q m (Scan going) s h d e =
+    unfold started in unfold courseIn in leaves 0 origin (⊎-elim (λ q. omega (arith, q)) (λ q. omega (arith, q)) (two-ways going d)) refl
+off-leaves q m (Jog going) s h d e = by-leaves q m going 1 s (omega arith) d h
 
 -- One that does not changes nothing.
-pub off-stays : (m : Motor) (s : Start) → setsOff m s ≡ false → started m (courseOf m s) ≡ m
+pub off-stays : (q : Bool) (m : Motor) (s : Start) → setsOff m s ≡ false → started q m (courseOf m s) ≡ m
 unfolding setsOff
-off-stays m (Abs w) e = to-stays m (directionOf w) origin (w .digits) (not-false _ e)
-off-stays m (Rel w) e =
-    to-stays m (directionOf w) (m .place) (w .digits)
+off-stays q m (Abs w) e = to-stays q m (directionOf w) origin (w .digits) (not-false _ e)
+off-stays q m (Rel w) e =
+    to-stays q m (directionOf w) (m .place) (w .digits)
     (rw (eqb-true (w .digits) 0 (not-false _ e), moved-none (directionOf w) (m .place)) (eq-eqb (m .place) (m .place) refl))
-off-stays m (Scan going) e = absurd (false≢true (sym e))
-off-stays m (Jog going) e = absurd (false≢true (sym e))
+off-stays q m (Scan going) e = absurd (false≢true (sym e))
+off-stays q m (Jog going) e = absurd (false≢true (sym e))
 
 -- what the account and the motor have to say of each other
 pub record Balanced (m : Motor) (a : Account) : Type 0 where
   pub lasting : a .lasts ≡ busy m
   pub counting : takesTicks a ≡ moving m
   pub going : busy m ≡ true → a .going ≡ m .drive .going
+  pub aim : busy m ≡ true → a .aim ≡ courseIn m
   pub speed : busy m ≡ true → a .speed ≡ m .drive .speed
   pub exact : busy m ≡ true → 1000 * a .pulses + m .drive .fraction ≡ a .sum
   pub most : 1000 * a .pulses ≤ a .sum
@@ -132,6 +135,7 @@ no-drive n a e h =
       lasting = ended ∙ sym still;
       counting = rw (ended, idle-still n still);
       going = λ d. absurd (false≢true (sym still ∙ d));
+      aim = λ d. absurd (false≢true (sym still ∙ d));
       speed = λ d. absurd (false≢true (sym still ∙ d));
       exact = λ d. absurd (false≢true (sym still ∙ d));
       most = h;
@@ -144,46 +148,40 @@ same-drive m n a e b =
       lasting = lasts ∙ b .lasting ∙ rw e;
       counting = rw (lasts, b .counting, moving-drive n m e);
       going = rw e (b .going);
+      aim = unfold courseIn in rw e (b .aim);
       speed = rw e (b .speed);
       exact = rw e (b .exact);
       most = b .most;
     }
 
--- No setting touches the drive.
-pub set-drive : (m : Motor) (s : Setting) → withSetting m s .drive ≡ m .drive
-unfolding withSetting
-set-drive m (Preset w) = refl
-set-drive m (SetCwLimit w) = refl
-set-drive m (SetCcwLimit w) = refl
-set-drive m (Select k) = refl
-set-drive m (SetSpeed k v) = refl
-set-drive m (SetSwitches q r) = refl
-set-drive m (SetMotor q) = refl
-
-start-balanced : (m : Motor) (s : Start) (n : ℕ) (a : Account) → soundMotor m ≡ true → judgeStart m (courseOf m s) ≡ Done
-    → startMade s ≡ true → Balanced m a → Balanced (started m (courseOf m s)) (closed (started m (courseOf m s)) (booked m n a (starts s)))
+start-balanced : (m : Motor) (s : Start) (n : ℕ) (a : Account) → soundMotor m ≡ true → judgeStart m (courseOf m s) ≡ Done → startMade s ≡ true
+    → Balanced m a → let l = started (a .paused) m (courseOf m s) in Balanced l (closed l (booked m n a (starts s)))
 unfolding booked
 start-balanced m s n a o h w b = go (setsOff m s) refl
   where
-    new : Account
-    new = newDrive (wayOf m s) (selectedSpeed m)
+    l : Motor
+    l = started (a .paused) m (courseOf m s)
 
-    launch : {l : Motor} → Leaves m (wayOf m s) l → Balanced l (closed l new)
-    launch (leaves kind target g) =
-        let l = launched m (wayOf m s) kind target in
+    new : Account
+    new = newDrive (a .paused) (wayOf m s) (courseOf m s) (selectedSpeed m)
+
+    launch : {l : Motor} → Leaves (a .paused) m (wayOf m s) (courseOf m s) l → Balanced l (closed l new)
+    launch (leaves kind target g e) =
+        let l = launched (a .paused) m (wayOf m s) kind target in
         let off : busy l ≡ true = rw (ne-eqb (wayOf m s) 0 (omega arith)) in
         record {
           lasting = refl;
           counting = rw (off, busy-moves l off);
           going = λ d. refl;
+          aim = λ d. sym e;
           speed = λ d. refl;
           exact = λ d. refl;
           most = omega arith;
         }
 
-    go : (t : Bool) → setsOff m s ≡ t → Balanced (started m (courseOf m s)) (closed (started m (courseOf m s)) (cond t new a))
-    go true e = launch (off-leaves m s o h w e)
-    go false e = rw (off-stays m s e) (same-drive m m a refl b)
+    go : (t : Bool) → setsOff m s ≡ t → Balanced l (closed l (cond t new a))
+    go true e = launch (off-leaves (a .paused) m s o h w e)
+    go false e = rw (off-stays (a .paused) m s e) (same-drive m m a refl b)
 
 stop-balanced : (m : Motor) (flags : ℕ) (a : Account) → Balanced m a → Balanced (stopped flags m) (closed (stopped flags m) a)
 stop-balanced m flags a b = go (busy m) refl
@@ -201,6 +199,7 @@ speed-balanced m v a d b =
       lasting = lasts ∙ b .lasting;
       counting = rw (lasts, b .counting, speed-moves m (m .ended) v);
       going = b .going;
+      aim = unfold courseIn in b .aim;
       speed = λ e. refl;
       exact = b .exact;
       most = b .most;
@@ -216,6 +215,38 @@ read-balanced m n a b = go (busy m && blocked (m .drive .going) (contacted m n))
     go : (t : Bool) → Balanced (after t) (closed (after t) a)
     go true = no-drive (endedWith lsend (contacted m n)) a refl (b .most)
     go false = same-drive m (contacted m n) a refl b
+
+-- A drive that keeps its direction, kind and target keeps its course.
+course-stays : (m n : Motor) → SameDrive m n → courseIn n ≡ courseIn m
+unfolding courseIn
+course-stays m n d = rw (d .kind, d .target, d .going)
+
+-- After PAUSE OFF what is busy moves, and its account counts; PAUSE ON changes nothing of either.
+pause-balanced : (m : Motor) (k : ℕ) (a : Account) → Balanced m a
+    → let n = cond (eqb k 0) (released m) m in Balanced n (closed n (pausing a k))
+unfolding courseIn
+pause-balanced m k a b = go (eqb k 0)
+  where
+    lasts : (a .lasts && busy m) ≡ a .lasts
+    lasts = rw (b .lasting, and-self)
+
+    after : Motor → Bool → Account
+    after n t =
+        record { lasts = a .lasts && busy n; counting = a .counting || t; paused = eqb k 1; going = a .going; aim = a .aim; speed = a .speed; sum = a .sum; pulses = a .pulses }
+
+    go : (t : Bool) → Balanced (cond t (released m) m) (after (cond t (released m) m) t)
+    go false = record { lasting = lasts ∙ b .lasting; counting = rw (lasts, or-false (a .counting)) (b .counting); going = b .going; aim = b .aim; speed = b .speed; exact = b .exact; most = b .most }
+    go true =
+        let e = released-drive m in
+        record {
+          lasting = rw (e) (lasts ∙ b .lasting);
+          counting = rw (released-moves m, e, lasts, or-true (a .counting), and-true) (b .lasting);
+          going = rw (e) (b .going);
+          aim = rw (e) (b .aim);
+          speed = rw (e) (b .speed);
+          exact = rw (e) (b .exact);
+          most = b .most;
+        }
 
 -- After a tick of a motor that moves, it moves on or is not busy.
 tick-counting : (m : Motor) → moving m ≡ true → (busy (tickMotor m .motor) && true) ≡ moving (tickMotor m .motor)
@@ -246,19 +277,37 @@ tick-balanced m n a p b =
           lasting = rw lasts;
           counting = rw (lasts, counts) (tick-counting m d);
           going = λ e. b .going on ∙ sym (drive-stays m e .going);
+          aim = λ e. b .aim on ∙ sym (course-stays m (tickMotor m .motor) (drive-stays m e));
           speed = λ e. b .speed on ∙ sym (drive-stays m e .speed);
           exact = λ e. omega (arith, p, v, carried m e, b .exact on);
           most = omega (arith, p, v, never-early m, b .exact on);
         })
 
 -- Whatever a deed does, the account stays balanced.
-pub performed-balanced : (m : Motor) (d : Deed) (n : ℕ) (a : Account) → soundMotor m ≡ true → Fits m d → (d ≡ ticks → n ≡ tickMotor m .pulses) → Balanced m a
-    → Balanced (performed m d) (closed (performed m d) (booked m n a d))
+pub performed-balanced : (q : Bool) (m : Motor) (d : Deed) (n : ℕ) (a : Account) → soundMotor m ≡ true → Fits m d → (d ≡ ticks → n ≡ tickMotor m .pulses)
+    → a .paused ≡ q → Balanced m a → Balanced (performed q m d) (closed (performed q m d) (booked m n a d))
 unfolding performed booked
-performed-balanced m (starts s) n a o (fits-start _ still h w r) p b = start-balanced m s n a o h r b
-performed-balanced m (stops flags) n a o f p b = stop-balanced m flags a b
-performed-balanced m (speeds v) n a o (fits-speed _ d h) p b = speed-balanced m v a d b
-performed-balanced m (sets s) n a o f p b = same-drive m (withSetting m s) a (set-drive m s) b
-performed-balanced m (reads c) n a o f p b = read-balanced m c a b
-performed-balanced m ticks n a o f p b = tick-balanced m n a (p refl) b
-performed-balanced m rests n a o f p b = same-drive m m a refl b
+performed-balanced q m (starts s) n a o (fits-start _ still h w r) p on b = rw (← on) (start-balanced m s n a o h r b)
+performed-balanced q m (stops flags) n a o f p on b = stop-balanced m flags a b
+performed-balanced q m (speeds v) n a o (fits-speed _ d h) p on b = speed-balanced m v a d b
+performed-balanced q m (sets s) n a o f p on b = same-drive m (withSetting m s) a (set-drive m s) b
+performed-balanced q m (reads c) n a o f p on b = read-balanced m c a b
+performed-balanced q m ticks n a o f p on b = tick-balanced m n a (p refl) b
+performed-balanced q m (pauses k) n a o f p on b = pause-balanced m k a b
+performed-balanced q m rests n a o f p on b = same-drive m m a refl b
+
+either : (b : Bool) (x y : Account) (p : Bool) → x .paused ≡ p → y .paused ≡ p → cond b x y .paused ≡ p
+either true x y p e f = e
+either false x y p e f = f
+
+-- The account knows pause as the deeds make it.
+pub booked-paused : (m : Motor) (n : ℕ) (a : Account) (d : Deed) → booked m n a d .paused ≡ pausedBy (a .paused) d
+unfolding booked
+booked-paused m n a (starts s) = either (setsOff m s) (newDrive (a .paused) (wayOf m s) (courseOf m s) (selectedSpeed m)) a (a .paused) refl refl
+booked-paused m n a (stops flags) = refl
+booked-paused m n a (speeds v) = refl
+booked-paused m n a (sets s) = refl
+booked-paused m n a (reads c) = refl
+booked-paused m n a ticks = either (takesTicks a) (withTick a n) a (a .paused) refl refl
+booked-paused m n a (pauses k) = refl
+booked-paused m n a rests = refl

@@ -19,13 +19,14 @@ use Rattle.table.specs.Sound.{soundTable}
 use Rattle.table.proofs.TableLaws.{sound-motor-at}
 use Rattle.table.proofs.KeptLaws.{fresh-sound}
 use Rattle.laws.specs.Sequences.{Library, urqolina, Call, after, Beginning, fromFresh, ran}
-use Rattle.laws.specs.Deeds.{Deed, starts, stops, speeds, sets, reads, ticks, rests, deed}
+use Rattle.laws.specs.Deeds.{Deed, starts, stops, speeds, sets, reads, ticks, pauses, rests, deed}
 use Rattle.laws.specs.Ledger.{countAt, cwPulses, ccwPulses, Travel, noTravel, resetBy, travelled, travel, settled, settings}
 use Rattle.laws.specs.Contacts.{Told, untold, toldBy, told, Contacts}
 use Rattle.laws.proofs.PartLaws.{fresh-motor}
 use Rattle.laws.proofs.Following.{next}
 use Rattle.laws.proofs.TravelLaws.{count-read, tick-count}
 use Rattle.laws.proofs.LastingLaws.{made-fresh, ran-sound}
+use Rattle.laws.proofs.DeedLaws.{pausedIn}
 use Rattle.laws.proofs.SettledLaws.{performed-same, settled-so}
 use Rattle.laws.proofs.PulseLaws.{demand-3}
 
@@ -53,6 +54,7 @@ settled-agrees m h (speeds v) a = a
 settled-agrees m h (sets s) a = set-agrees m h s a
 settled-agrees m h (reads n) a = (refl, refl)
 settled-agrees m h ticks a = a
+settled-agrees m h (pauses k) a = a
 settled-agrees m h rests a = a
 
 -- So after any sequence, of any library.
@@ -72,6 +74,7 @@ untold-by h (speeds v) z = z
 untold-by h (sets s) z = z
 untold-by h (reads n) z = absurd (omega (arith, z))
 untold-by h ticks z = z
+untold-by h (pauses k) z = z
 untold-by h rests z = z
 
 untold-before : (l : Library) (c : ℕ) (t : List ℕ) (h : Told) (ks : List Call) → told l c t h ks .read ≡ 0 → h .read ≡ 0
@@ -111,6 +114,7 @@ travelled-unmoved n j (speeds v) z u = u
 travelled-unmoved n j (sets s) z u = reset-unmoved j s u
 travelled-unmoved n j (reads m) z u = u
 travelled-unmoved n j ticks z u = rw (z refl) (omega (arith, u))
+travelled-unmoved n j (pauses k) z u = u
 travelled-unmoved n j rests z u = u
 
 -- A channel that stays unread is not moved.
@@ -123,7 +127,7 @@ run-unmoved c on t (k ∷ ks) h j s a z u =
     let d = deed c t k in
     let v = after urqolina t k in
     let still : m .wiring .read ≡ 0 = a .1 ∙ untold-by h d (untold-before urqolina c (v .table) (toldBy h d) ks z) in
-    let same = performed-same m m d (search) in
+    let same = performed-same (pausedIn t) m m d (search) in
     let then : Agrees (motorAt (v .table) c) (toldBy h d) = rw (next t k s .follows c on .motor, same .wiring) (settled-agrees m h d a) in
     run-unmoved c on (v .table) ks (toldBy h d) (travelled (countAt (v .buffer) c) j d) (next t k s .sound) then z
     (travelled-unmoved (countAt (v .buffer) c) j d (λ e. tick-count t k c s on e ∙ unread-count m (sound-motor-at t c s on) still) u)

@@ -1,6 +1,6 @@
 -- After any call on a sound table the table is sound, and each channel's motor is what the call's deed makes of it. Assumes
 -- nothing.
-use mathlib.Core.Path.{_≡_, refl, sym}
+use mathlib.Core.Path.{_≡_, refl, sym, _∙_}
 use mathlib.Core.List.{List}
 use mathlib.Core.Bool.{Bool, true, false, _&&_, _||_, not, cond, false≢true, and-true, and-false}
 use Prim.Native.Nat.{ℕ, _≤_}
@@ -9,43 +9,46 @@ use lib.ListN.{length}
 use lib.Dec.{eqb, leb}
 use borrow.Author.Tests.{eq-eqb, ne-eqb, eqb-true, eqb-false, leb-true, leb-false}
 use Rattle.record.specs.declared.Motor.{Motor}
-use Rattle.motor.specs.Sound.{endFlagsInRange, busy}
-use Rattle.motor.proofs.SoundLaws.{and-r}
+use Rattle.motor.specs.Sound.{endFlagsInRange, busy, soundMotor, heldRight}
+use Rattle.motor.proofs.SoundLaws.{and-r, or-true}
 use Rattle.drive.specs.declared.Verdict.the-variants.{Done, Busy, OutOfRange, LocalMode, NotDriving}
 use Rattle.drive.specs.Numbers.{numberOf}
 use Rattle.drive.proofs.NumberLaws.{numbered}
-use Rattle.drive.specs.Drives.{wellAimed, started, stopped, speedChanged, switchRead}
-use Rattle.pulses.specs.Ticks.{tickMotor}
-use Rattle.pulses.proofs.TickSound.{tick-sound}
-use Rattle.drive.proofs.KeptSound.{course-aimed, stopped-sound}
+use Rattle.drive.specs.Drives.{wellAimed, released}
+use Rattle.drive.proofs.Laws.{released-drive}
+use Rattle.drive.proofs.KeptSound.{course-aimed}
 use Rattle.line.specs.declared.Start.{Start}
 use Rattle.line.specs.declared.Start.the-variants.{Abs, Rel, Scan, Jog}
 use Rattle.line.specs.declared.Setting.{Setting}
+use Rattle.line.specs.declared.HeadOrder.{HeadOrder}
+use Rattle.line.specs.declared.HeadOrder.the-variants.{Mode, AllReply, ClearErrors, ClearError, Pause}
 use Rattle.line.specs.declared.Order.{Order}
 use Rattle.line.specs.declared.Order.the-variants.{Go, Stop, StopAll, ChangeSpeed, Set, Ask, AskHead, ForHead}
 use Rattle.line.specs.Forms.{ssend, esend, orderOf}
-use Rattle.line.specs.Made.{onBench, startMade, endFlag, settingMade, orderMade}
+use Rattle.line.specs.Made.{onBench, startMade, endFlag, settingMade, headMade, orderMade}
 use Rattle.line.proofs.OrderLaws.{line-made}
 use Rattle.orders.specs.Values.{needsRemote, valueInRange}
-use Rattle.orders.specs.Settings.{directionOf, courseOf, withSetting}
+use Rattle.orders.specs.Settings.{directionOf, courseOf}
 use Rattle.digits.specs.Places.{origin}
-use Rattle.table.specs.Layout.{tableSize, headOf, withHead, motorAt, withMotor}
+use Rattle.digits.specs.Words.{withoutBit}
+use Rattle.table.specs.Layout.{tableSize, headOf, withHead, withMode, withReply, withErrors, withPause, motorAt, withMotor, withMotors}
 use Rattle.table.specs.declared.head.Head.{Head}
 use Rattle.table.specs.Sound.{soundTable}
-use Rattle.table.proofs.TableLaws.{sound-length, sound-motor-at}
-use Rattle.table.proofs.HeadLaws.{head-motor, head-sound, sound-range}
-use Rattle.table.proofs.KeptLaws.{written-motor, motor-kept, motor-sound, motors-sound}
+use Rattle.table.proofs.TableLaws.{sound-length, sound-motor-at, sound-held-at}
+use Rattle.table.proofs.HeadLaws.{same-head, head-back, head-motor, head-sound, head-sound-on, sound-range}
+use Rattle.table.proofs.KeptLaws.{written-motor, head-kept, motor-kept, motor-sound, motors-sound}
 use Rattle.commands.specs.Judging.{meetsBusy, judgeMotor, judge}
-use Rattle.commands.specs.Changing.{headChanged, changed, flagged}
+use Rattle.commands.specs.Changing.{headChanged, motorsFreed, changed, flagged}
 use Rattle.commands.proofs.HeadOrderLaws.{flagged-range, changed-range}
 use Rattle.commands.proofs.ChannelLaws.{named, named-channel}
 use Rattle.obeying.specs.Taking.{refused, obeyed}
 use Rattle.urqolina.specs.Calls.{commandCall, readingCall, tickCall}
 use Rattle.laws.specs.Sequences.{urqolina, Call, command, reading, tick, after}
-use Rattle.laws.specs.Deeds.{verdict, Deed, starts, stops, speeds, sets, reads, ticks, rests, deedIf, deedOf, deedTaken, deed}
+use Rattle.laws.specs.Deeds.{verdict, Deed, starts, stops, speeds, sets, reads, ticks, pauses, rests, deedIf, headDeed, deedOf, deedTaken, deed}
 use Rattle.laws.proofs.PartLaws.{motors-motor}
 use Rattle.laws.proofs.CallWays.{sound-ways}
-use Rattle.laws.proofs.DeedLaws.{performed, Fits, fits-start, fits-stop, fits-speed, fits-set, fits-read, fits-tick, fits-rest, performed-sound}
+use Rattle.laws.proofs.NeighbourLaws.{motors-head}
+use Rattle.laws.proofs.DeedLaws.{performed, pausedIn, pausedBy, Fits, fits-start, fits-stop, fits-speed, fits-set, fits-read, fits-tick, fits-pause, fits-rest, performed-sound, performed-right, performed-free}
 
 -- what an order has passed when it is accepted
 pub record Passed (t : List ℕ) (o : Order) : Type 0 where
@@ -112,75 +115,153 @@ module _ (t : List ℕ) (x : ℕ) where
 
 -- what a call does to channel c: the table u after it holds what the deed makes of the motor, and the deed fits it
 pub record Follows (t u : List ℕ) (c : ℕ) (d : Deed) : Type 0 where
-  pub motor : motorAt u c ≡ performed (motorAt t c) d
+  pub motor : motorAt u c ≡ performed (pausedIn t) (motorAt t c) d
   pub fits : Fits (motorAt t c) d
+  -- and pause is what the deed makes of it
+  pub pause : pausedIn u ≡ pausedBy (pausedIn t) d
 
--- A call that leaves the motor is nothing to it.
-idle : (t u : List ℕ) (c : ℕ) → motorAt u c ≡ motorAt t c → Follows t u c rests
+-- A call that leaves the motor and pause is nothing to it.
+idle : (t u : List ℕ) (c : ℕ) → motorAt u c ≡ motorAt t c → headOf u .pause ≡ headOf t .pause → Follows t u c rests
 unfolding performed
-idle t u c e = record { motor = e; fits = fits-rest }
+idle t u c e p = record { motor = e; fits = fits-rest; pause = rw p }
 
--- A motor written for a deed of channel x that fits.
-writes : (t : List ℕ) (x c : ℕ) (d : Deed) → soundTable t ≡ true → x ≤ 15 → Fits (motorAt t x) d
-    → Follows t (withMotor t x (performed (motorAt t x) d)) c (deedIf (eqb x c) d)
-writes t x c d s h f = go (eqb x c) refl
-  where
-    u : List ℕ
-    u = withMotor t x (performed (motorAt t x) d)
+-- A motor written for a deed of channel x that fits and is nothing to pause.
+module _ (t : List ℕ) (x : ℕ) (d : Deed) (quiet : (p : Bool) → pausedBy p d ≡ p) (s : soundTable t ≡ true) (h : x ≤ 15) (f : Fits (motorAt t x) d) where
+  n : Motor
+  n = performed (pausedIn t) (motorAt t x) d
 
-    go : (b : Bool) → eqb x c ≡ b → Follows t u c (deedIf b d)
-    go true e =
-        rw (← eqb-true x c e)
-        (record { motor = written-motor t x (performed (motorAt t x) d) (sound-length t s) h (performed-sound (motorAt t x) d (sound-motor-at t x s h) f); fits = f })
-    go false e = idle t u c (motor-kept t x (performed (motorAt t x) d) (sound-length t s) h c (λ q. eqb-false x c e (sym q)))
+  sound-after : soundMotor n ≡ true
+  unfolding n
+  sound-after = performed-sound (pausedIn t) (motorAt t x) d (sound-motor-at t x s h) f
 
--- A head written leaves every motor.
-head-idle : (t : List ℕ) (h : Head) (c : ℕ) → soundTable t ≡ true → Follows t (withHead t h) c rests
-head-idle t h c s = idle t (withHead t h) c (head-motor t h (sound-length t s) c)
+  head-same : headOf (withMotor t x n) ≡ headOf t
+  head-same = same-head t (withMotor t x n) (head-kept t x n (sound-length t s) h)
+
+  writes : (c : ℕ) → Follows t (withMotor t x (performed (pausedIn t) (motorAt t x) d)) c (deedIf (eqb x c) d)
+  unfolding n
+  writes c = go (eqb x c) refl
+    where
+      go : (b : Bool) → eqb x c ≡ b → Follows t (withMotor t x n) c (deedIf b d)
+      go true e =
+          rw (← eqb-true x c e)
+          (record { motor = written-motor t x n (sound-length t s) h sound-after; fits = f; pause = rw (head-same) (sym (quiet (pausedIn t))) })
+      go false e = idle t (withMotor t x n) c (motor-kept t x n (sound-length t s) h c (λ q. eqb-false x c e (sym q))) (rw head-same)
+
+  -- The table stays sound.
+  writes-sound : soundTable (withMotor t x (performed (pausedIn t) (motorAt t x) d)) ≡ true
+  unfolding n
+  writes-sound = motor-sound t x n s h sound-after (performed-right (pausedIn t) (motorAt t x) d (sound-held-at t x s h))
+
+-- Every motor changed for a deed that fits each of them and holds none.
+module _ (t : List ℕ) (d : Deed) (s : soundTable t ≡ true) (f : (m : Motor) → Fits m d) where
+  abbrev each : Motor → Motor
+  each m = performed false m d
+
+  each-head : headOf (withMotors t each) ≡ headOf t
+  each-head = same-head t (withMotors t each) (λ i n h. motors-head t each i n s h)
+
+  each-motor : (c : ℕ) → c ≤ 15 → motorAt (withMotors t each) c ≡ each (motorAt t c)
+  each-motor c h = motors-motor t each c (sound-length t s) h (performed-sound false (motorAt t c) d (sound-motor-at t c s h) (f (motorAt t c)))
+
+  each-sound : soundTable (withMotors t each) ≡ true
+  each-sound = motors-sound each (λ m o. performed-sound false m d o (f m)) (λ m e. performed-free m d e) t s
+
+-- A head written that leaves pause leaves every motor.
+head-idle : (t : List ℕ) (h : Head) (c : ℕ) → soundTable t ≡ true → h .pause ≡ headOf t .pause → Follows t (withHead t h) c rests
+head-idle t h c s e = idle t (withHead t h) c (head-motor t h (sound-length t s) c) (rw (head-back t h (sound-length t s)) e)
+
+-- PAUSE ON and OFF: OFF releases every motor, ON leaves them.
+module _ (t : List ℕ) (k : ℕ) (s : soundTable t ≡ true) where
+  abbrev freed : List ℕ
+  freed = motorsFreed t (Pause k)
+
+  freed-sound : soundTable freed ≡ true
+  unfolding performed
+  freed-sound = go (eqb k 0)
+    where
+      go : (b : Bool) → soundTable (cond b (withMotors t released) t) ≡ true
+      go true = each-sound t (pauses 0) s (λ m. fits-pause 0)
+      go false = s
+
+  freed-motor : (c : ℕ) → c ≤ 15 → motorAt freed c ≡ cond (eqb k 0) (released (motorAt t c)) (motorAt t c)
+  unfolding performed
+  freed-motor c h = go (eqb k 0)
+    where
+      go : (b : Bool) → motorAt (cond b (withMotors t released) t) c ≡ cond b (released (motorAt t c)) (motorAt t c)
+      go true = each-motor t (pauses 0) s (λ m. fits-pause 0) c h
+      go false = refl
+
+  pause-follows : (c : ℕ) → c ≤ 15 → Follows t (withHead freed (withPause (headOf t) k)) c (pauses k)
+  unfolding performed
+  pause-follows c h =
+      let e = sound-length freed freed-sound in
+      record { motor = head-motor freed (withPause (headOf t) k) e c ∙ freed-motor c h; fits = fits-pause k; pause = rw (head-back freed (withPause (headOf t) k) e) }
+
+  -- Without pause nothing is left that is held.
+  freed-right : leb k 1 ≡ true → (c : ℕ) → c ≤ 15 → heldRight (eqb k 1) (motorAt freed c) ≡ true
+  freed-right made c h = rw (freed-motor c h) (go (eqb k 0) refl)
+    where
+      go : (b : Bool) → eqb k 0 ≡ b → heldRight (eqb k 1) (cond b (released (motorAt t c)) (motorAt t c)) ≡ true
+      go true e = rw (released-drive (motorAt t c)) (or-true (eqb k 1))
+      go false e = let on : k ≡ 1 = omega (arith, leb-true k 1 made, eqb-false k 0 e) in rw on
+
+  pause-sound : leb k 1 ≡ true → soundTable (withHead freed (withPause (headOf t) k)) ≡ true
+  unfolding headChanged
+  pause-sound made = head-sound freed (withPause (headOf t) k) freed-sound (changed-range (headOf t) (Pause k) (sound-range t s) made) (freed-right made)
+
+-- An accepted order of the head: each channel follows it.
+head-follows : (t : List ℕ) (o : HeadOrder) (c : ℕ) → soundTable t ≡ true → c ≤ 15 → Follows t (withHead (motorsFreed t o) (headChanged (headOf t) o)) c (headDeed o)
+unfolding headChanged
+head-follows t (Mode k) c s h = head-idle t (withMode (headOf t) k) c s refl
+head-follows t (AllReply k) c s h = head-idle t (withReply (headOf t) k) c s refl
+head-follows t ClearErrors c s h = head-idle t (withErrors (headOf t) 0) c s refl
+head-follows t (ClearError e) c s h = head-idle t (withErrors (headOf t) (withoutBit e (headOf t .errors))) c s refl
+head-follows t (Pause k) c s h = pause-follows t k s c h
+
+-- It leaves a sound table.
+head-order-sound : (t : List ℕ) (o : HeadOrder) → soundTable t ≡ true → headMade o ≡ true → soundTable (withHead (motorsFreed t o) (headChanged (headOf t) o)) ≡ true
+unfolding headChanged
+head-order-sound t (Mode k) s m = head-sound-on t _ s (changed-range (headOf t) (Mode k) (sound-range t s) m) refl
+head-order-sound t (AllReply k) s m = head-sound-on t _ s (changed-range (headOf t) (AllReply k) (sound-range t s) m) refl
+head-order-sound t ClearErrors s m = head-sound-on t _ s (changed-range (headOf t) ClearErrors (sound-range t s) m) refl
+head-order-sound t (ClearError e) s m = head-sound-on t _ s (changed-range (headOf t) (ClearError e) (sound-range t s) m) refl
+head-order-sound t (Pause k) s m = pause-sound t k s m
 
 -- An accepted order: each channel follows it.
 pub order-follows : (t : List ℕ) (o : Order) (c : ℕ) → soundTable t ≡ true → c ≤ 15 → orderMade o ≡ true → numberOf (judge t o) ≡ 0
     → Follows t (changed t o) c (deedOf c o)
 unfolding changed deedOf orderMade performed named
-order-follows t (Go x s) c k h m e = writes t x c (starts s) k (named-channel (Go x s) m) (go-fits t x s m e)
-order-follows t (Stop x flags) c k h m e = writes t x c (stops flags) k (named-channel (Stop x flags) m) (stop-fits t x flags m)
+order-follows t (Go x s) c k h m e = writes t x (starts s) (λ p. refl) k (named-channel (Go x s) m) (go-fits t x s m e) c
+order-follows t (Stop x flags) c k h m e = writes t x (stops flags) (λ p. refl) k (named-channel (Stop x flags) m) (stop-fits t x flags m) c
 order-follows t (StopAll flags) c k h m e =
-    let f = flags-in-range flags m in
-    record { motor = motors-motor t (stopped flags) c (sound-length t k) h (stopped-sound flags (motorAt t c) f (sound-motor-at t c k h)); fits = fits-stop flags f }
-order-follows t (ChangeSpeed x v) c k h m e = writes t x c (speeds v) k (named-channel (ChangeSpeed x v) m) (speed-fits t x v e)
-order-follows t (Set x s) c k h m e = writes t x c (sets s) k (named-channel (Set x s) m) (set-fits t x s m e)
-order-follows t (Ask x q) c k h m e = idle t t c refl
-order-follows t (AskHead q) c k h m e = idle t t c refl
-order-follows t (ForHead o) c k h m e = head-idle t (headChanged (headOf t) o) c k
+    let f = fits-stop flags (flags-in-range flags m) in
+    record { motor = each-motor t (stops flags) k (λ n. fits-stop flags (flags-in-range flags m)) c h; fits = f; pause = rw (each-head t (stops flags) k (λ n. fits-stop flags (flags-in-range flags m))) }
+order-follows t (ChangeSpeed x v) c k h m e = writes t x (speeds v) (λ p. refl) k (named-channel (ChangeSpeed x v) m) (speed-fits t x v e) c
+order-follows t (Set x s) c k h m e = writes t x (sets s) (λ p. refl) k (named-channel (Set x s) m) (set-fits t x s m e) c
+order-follows t (Ask x q) c k h m e = idle t t c refl refl
+order-follows t (AskHead q) c k h m e = idle t t c refl refl
+order-follows t (ForHead o) c k h m e = head-follows t o c k h
 
 -- A refusal leaves a sound table, and each motor.
 pub flagged-sound : (t : List ℕ) (n : ℕ) → soundTable t ≡ true → soundTable (flagged t n) ≡ true
 unfolding flagged
-flagged-sound t n s = head-sound t _ s (flagged-range (headOf t) n (sound-range t s))
+flagged-sound t n s = head-sound-on t _ s (flagged-range (headOf t) n (sound-range t s)) refl
 
 flagged-idle : (t : List ℕ) (n c : ℕ) → soundTable t ≡ true → Follows t (flagged t n) c rests
 unfolding flagged
-flagged-idle t n c s = head-idle t _ c s
+flagged-idle t n c s = head-idle t _ c s refl
 
 -- An accepted order leaves a sound table.
 pub changed-sound : (t : List ℕ) (o : Order) → soundTable t ≡ true → orderMade o ≡ true → numberOf (judge t o) ≡ 0 → soundTable (changed t o) ≡ true
 unfolding changed orderMade performed named
-changed-sound t (Go x s) k m e =
-    let h = named-channel (Go x s) m in
-    motor-sound t x (started (motorAt t x) (courseOf (motorAt t x) s)) k h (performed-sound (motorAt t x) (starts s) (sound-motor-at t x k h) (go-fits t x s m e))
-changed-sound t (Stop x flags) k m e =
-    let h = named-channel (Stop x flags) m in
-    motor-sound t x (stopped flags (motorAt t x)) k h (performed-sound (motorAt t x) (stops flags) (sound-motor-at t x k h) (stop-fits t x flags m))
-changed-sound t (StopAll flags) k m e = motors-sound (stopped flags) t k (λ n o. stopped-sound flags n (flags-in-range flags m) o)
-changed-sound t (ChangeSpeed x v) k m e =
-    let h = named-channel (ChangeSpeed x v) m in
-    motor-sound t x (speedChanged (motorAt t x) v) k h (performed-sound (motorAt t x) (speeds v) (sound-motor-at t x k h) (speed-fits t x v e))
-changed-sound t (Set x s) k m e =
-    let h = named-channel (Set x s) m in
-    motor-sound t x (withSetting (motorAt t x) s) k h (performed-sound (motorAt t x) (sets s) (sound-motor-at t x k h) (set-fits t x s m e))
+changed-sound t (Go x s) k m e = writes-sound t x (starts s) (λ p. refl) k (named-channel (Go x s) m) (go-fits t x s m e)
+changed-sound t (Stop x flags) k m e = writes-sound t x (stops flags) (λ p. refl) k (named-channel (Stop x flags) m) (stop-fits t x flags m)
+changed-sound t (StopAll flags) k m e = each-sound t (stops flags) k (λ n. fits-stop flags (flags-in-range flags m))
+changed-sound t (ChangeSpeed x v) k m e = writes-sound t x (speeds v) (λ p. refl) k (named-channel (ChangeSpeed x v) m) (speed-fits t x v e)
+changed-sound t (Set x s) k m e = writes-sound t x (sets s) (λ p. refl) k (named-channel (Set x s) m) (set-fits t x s m e)
 changed-sound t (Ask x q) k m e = k
 changed-sound t (AskHead q) k m e = k
-changed-sound t (ForHead o) k m e = head-sound t (headChanged (headOf t) o) k (changed-range (headOf t) o (sound-range t k) m)
+changed-sound t (ForHead o) k m e = head-order-sound t o k m
 
 -- what a call leaves of a sound table
 pub record Next (t u : List ℕ) (d : ℕ → Deed) : Type 0 where
@@ -188,7 +269,7 @@ pub record Next (t u : List ℕ) (d : ℕ → Deed) : Type 0 where
   pub follows : (c : ℕ) → c ≤ 15 → Follows t u c (d c)
 
 nothing-next : (t : List ℕ) → soundTable t ≡ true → Next t t (λ c. rests)
-nothing-next t s = record { sound = s; follows = λ c h. idle t t c refl }
+nothing-next t s = record { sound = s; follows = λ c h. idle t t c refl refl }
 
 flagged-next : (t : List ℕ) (n : ℕ) → soundTable t ≡ true → Next t (flagged t n) (λ c. rests)
 flagged-next t n s = record { sound = flagged-sound t n s; follows = λ c h. flagged-idle t n c s }
@@ -217,9 +298,9 @@ reading-next t x n s = go (leb x 15) refl (leb n 7) refl
         let h = leb-true x 15 a in
         let l = leb-true n 7 b in
         rw (eq-eqb (length t) tableSize (sound-length t s), a, b, s)
-        (record { sound = motor-sound t x (switchRead (motorAt t x) n) s h (performed-sound (motorAt t x) (reads n) (sound-motor-at t x s h) (fits-read n l)); follows = λ c k. rw and-true (writes t x c (reads n) s h (fits-read n l)) })
-    go true a false b = rw (eq-eqb (length t) tableSize (sound-length t s), a, b) (record { sound = s; follows = λ c h. rw and-false (idle t t c refl) })
-    go false a b eb = rw (eq-eqb (length t) tableSize (sound-length t s), a) (record { sound = s; follows = λ c h. rw (off c h a) (idle t t c refl) })
+        (record { sound = writes-sound t x (reads n) (λ p. refl) s h (fits-read n l); follows = λ c k. rw and-true (writes t x (reads n) (λ p. refl) s h (fits-read n l) c) })
+    go true a false b = rw (eq-eqb (length t) tableSize (sound-length t s), a, b) (record { sound = s; follows = λ c h. rw and-false (idle t t c refl refl) })
+    go false a b eb = rw (eq-eqb (length t) tableSize (sound-length t s), a) (record { sound = s; follows = λ c h. rw (off c h a) (idle t t c refl refl) })
 
 -- a tick
 tick-next : (t p : List ℕ) → soundTable t ≡ true → Next t (tickCall t p .table) (λ c. deed c t (tick p))
@@ -229,7 +310,7 @@ tick-next t p s = go (eqb (length p) 64) refl
     go : (b : Bool) → eqb (length p) 64 ≡ b → Next t (tickCall t p .table) (λ c. deedIf b ticks)
     go true e =
         rw (eq-eqb (length t) tableSize (sound-length t s), e, s)
-        (record { sound = motors-sound (λ m. tickMotor m .motor) t s tick-sound; follows = λ c h. record { motor = motors-motor t (λ m. tickMotor m .motor) c (sound-length t s) h (tick-sound (motorAt t c) (sound-motor-at t c s h)); fits = fits-tick } })
+        (record { sound = each-sound t ticks s (λ m. fits-tick); follows = λ c h. record { motor = each-motor t ticks s (λ m. fits-tick) c h; fits = fits-tick; pause = rw (each-head t ticks s (λ m. fits-tick)) } })
     go false e = rw (eq-eqb (length t) tableSize (sound-length t s), e) (nothing-next t s)
 
 -- After any call on a sound table the table is sound, and each channel follows the call.

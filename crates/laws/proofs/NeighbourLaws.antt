@@ -1,7 +1,7 @@
 -- The bytes that a call leaves as they were, for every table and all inputs. Assumes nothing.
 use mathlib.Core.Path.{_≡_, refl, sym, _∙_}
 use mathlib.Core.List.{List, append-nil, flatMap}
-use mathlib.Core.Bool.{Bool, true, false, false≢true}
+use mathlib.Core.Bool.{Bool, true, false, _&&_, cond, false≢true}
 use Prim.Native.Nat.{ℕ, _+_, _%_, _≤_}
 use native.Mathlib.Omega.{arith}
 use lib.ListN.{length, drop, drop-of-length-le}
@@ -11,10 +11,12 @@ use Rattle.digits.specs.Bytes.{AllBytes, part, put}
 use Rattle.record.specs.declared.Motor.{Motor}
 use Rattle.record.specs.Record.{motorOf, recordOf}
 use Rattle.motor.specs.Sound.{busy, moving}
-use Rattle.drive.specs.Drives.{stopped}
+use Rattle.drive.specs.Drives.{released, stopped}
 use Rattle.pulses.specs.Ticks.{tickMotor}
 use Rattle.pulses.proofs.Laws.{stopped-given-none}
-use Rattle.drive.proofs.Laws.{stopped-again}
+use Rattle.drive.proofs.Laws.{stopped-again, released-free}
+use Rattle.line.specs.declared.HeadOrder.{HeadOrder}
+use Rattle.line.specs.declared.HeadOrder.the-variants.{Mode, AllReply, ClearErrors, ClearError, Pause}
 use Rattle.line.specs.declared.Order.{Order}
 use Rattle.line.specs.declared.Order.the-variants.{Go, Stop, StopAll, ChangeSpeed, Set, Ask, AskHead, ForHead}
 use Rattle.line.specs.declared.Parsed.{Parsed}
@@ -22,18 +24,20 @@ use Rattle.line.specs.declared.Parsed.the-variants.{Is, Nothing}
 use Rattle.line.specs.Forms.{orderOf}
 use Rattle.line.specs.Made.{orderMade}
 use Rattle.line.proofs.OrderLaws.{line-made}
-use Rattle.table.specs.Layout.{headOf, recordAt, records, motorAt, withMotor, withMotors}
+use Rattle.table.specs.declared.head.Head.{Head}
+use Rattle.table.specs.Layout.{headOf, withHead, recordAt, records, motorAt, withMotor, withMotors}
 use Rattle.table.specs.Sound.{soundTable}
 use Rattle.record.proofs.RoundTrip.{record-length}
 use Rattle.table.proofs.PieceLaws.{flat-length, part-before}
 use Rattle.table.proofs.TableLaws.{sound-length, sound-record-at}
 use Rattle.table.proofs.KeptLaws.{written-record, head-kept, record-kept, read-back}
-use Rattle.commands.specs.Changing.{headChanged, changed, flagged}
+use Rattle.commands.specs.Changing.{headChanged, motorsFreed, changed, flagged}
+use Rattle.commands.proofs.HeadOrderLaws.{freed-length}
 use Rattle.commands.proofs.ChannelLaws.{named, named-channel}
 use Rattle.obeying.specs.Taking.{refused, obeyed}
 use Rattle.urqolina.specs.Calls.{commandCall, tickCall}
 use Rattle.laws.specs.Sequences.{urqolina, Call, command, reading, tick, after}
-use Rattle.laws.specs.Deeds.{Deed, starts, stops, speeds, sets, reads, ticks, rests, deedIf, names, deedOf}
+use Rattle.laws.specs.Deeds.{Deed, starts, stops, speeds, sets, reads, ticks, pauses, rests, deedIf, names, headDeed, deedOf}
 use Rattle.laws.specs.Neighbours.{ofHead, Neighbours}
 use Rattle.laws.specs.Numbers.{isCommand}
 use Rattle.laws.proofs.PartLaws.{motors-record}
@@ -54,32 +58,45 @@ motor-left t x m d s h same = go (eqb x d) refl
     go true e = rw (← eqb-true x d e) (written-record t x m (sound-length t s) h ∙ rw (eqb-true x d e) (same e))
     go false e = record-kept t x m (sound-length t s) h d (λ q. eqb-false x d e (sym q))
 
--- a deed that can leave a record: a stop, and what is nothing to its channel
-abbrev quiet : Deed → Bool
-quiet (starts s) = false
-quiet (stops flags) = true
-quiet (speeds v) = false
-quiet (sets s) = false
-quiet (reads n) = false
-quiet ticks = false
-quiet rests = true
+-- a deed leaves the record of channel d: what is nothing to it does, and a stop or PAUSE OFF where what it makes of the motor is what the
+-- record holds
+abbrev Left : List ℕ → ℕ → Deed → Type 0
+Left t d (starts s) = ⊥
+Left t d (stops flags) = (d ≤ 15) × (recordOf (stopped flags (motorAt t d)) ≡ recordAt t d)
+Left t d (speeds v) = ⊥
+Left t d (sets s) = ⊥
+Left t d (reads n) = ⊥
+Left t d ticks = ⊥
+Left t d (pauses k) = eqb k 0 ≡ true → (d ≤ 15) × (recordOf (released (motorAt t d)) ≡ recordAt t d)
+Left t d rests = Unit {0}
 
--- a stop would leave the record of channel d, which is on the bench
-abbrev StopLeaves : List ℕ → ℕ → Deed → Type 0
-StopLeaves t d k = (flags : ℕ) → k ≡ stops flags → (d ≤ 15) × (recordOf (stopped flags (motorAt t d)) ≡ recordAt t d)
+-- An order of the head leaves a record, where a release does.
+head-left-record : (t : List ℕ) (o : HeadOrder) (h : Head) (d : ℕ) → soundTable t ≡ true → Left t d (headDeed o) → recordAt (withHead (motorsFreed t o) h) d ≡ recordAt t d
+head-left-record t o h d s q = head-record (motorsFreed t o) h (freed-length t o (sound-length t s)) d ∙ go o q
+  where
+    go : (o : HeadOrder) → Left t d (headDeed o) → recordAt (motorsFreed t o) d ≡ recordAt t d
+    go (Mode k) q = refl
+    go (AllReply k) q = refl
+    go ClearErrors q = refl
+    go (ClearError e) q = refl
+    go (Pause k) q = off (eqb k 0) refl
+      where
+        off : (b : Bool) → eqb k 0 ≡ b → recordAt (cond b (withMotors t released) t) d ≡ recordAt t d
+        off true e = let same = q e in motors-record t released d (sound-length t s) (same .0) ∙ same .1
+        off false e = refl
 
--- An order of a line that is nothing to a channel, or a stop that leaves its motor, leaves its record.
-changed-left : (t : List ℕ) (o : Order) (d : ℕ) → soundTable t ≡ true → orderMade o ≡ true → quiet (deedOf d o) ≡ true
-    → StopLeaves t d (deedOf d o) → recordAt (changed t o) d ≡ recordAt t d
+-- An order of a line that is nothing to a channel, or leaves its motor, leaves its record.
+changed-left : (t : List ℕ) (o : Order) (d : ℕ) → soundTable t ≡ true → orderMade o ≡ true → Left t d (deedOf d o)
+    → recordAt (changed t o) d ≡ recordAt t d
 unfolding changed deedOf named
-changed-left t (Go x a) d s made q stop = motor-left t x _ d s (named-channel (Go x a) made) (λ e. absurd (false≢true (rw e at q)))
-changed-left t (Stop x f) d s made q stop = motor-left t x _ d s (named-channel (Stop x f) made) (λ e. rw (eqb-true x d e) (stop f (rw e) .1))
-changed-left t (StopAll f) d s made q stop = let same = stop f refl in motors-record t (stopped f) d (sound-length t s) (same .0) ∙ same .1
-changed-left t (ChangeSpeed x v) d s made q stop = motor-left t x _ d s (named-channel (ChangeSpeed x v) made) (λ e. absurd (false≢true (rw e at q)))
-changed-left t (Set x a) d s made q stop = motor-left t x _ d s (named-channel (Set x a) made) (λ e. absurd (false≢true (rw e at q)))
-changed-left t (Ask x a) d s made q stop = refl
-changed-left t (AskHead a) d s made q stop = refl
-changed-left t (ForHead o) d s made q stop = head-record t (headChanged (headOf t) o) (sound-length t s) d
+changed-left t (Go x a) d s made q = motor-left t x _ d s (named-channel (Go x a) made) (λ e. absurd (rw e at q))
+changed-left t (Stop x f) d s made q = motor-left t x _ d s (named-channel (Stop x f) made) (λ e. let same = rw e at q in rw (eqb-true x d e) (same .1))
+changed-left t (StopAll f) d s made q = motors-record t (stopped f) d (sound-length t s) (q .0) ∙ q .1
+changed-left t (ChangeSpeed x v) d s made q = motor-left t x _ d s (named-channel (ChangeSpeed x v) made) (λ e. absurd (rw e at q))
+changed-left t (Set x a) d s made q = motor-left t x _ d s (named-channel (Set x a) made) (λ e. absurd (rw e at q))
+changed-left t (Ask x a) d s made q = refl
+changed-left t (AskHead a) d s made q = refl
+changed-left t (ForHead o) d s made q = head-left-record t o (headChanged (headOf t) o) d s q
 
 -- the table after what a line is, were it accepted
 abbrev obeyedTable : List ℕ → Parsed → List ℕ
@@ -87,25 +104,31 @@ obeyedTable t (Is o) = changed t o
 obeyedTable t Nothing = t
 
 -- So does the command, on any table: a refusal writes to the head at most.
-command-left : (t line reply : List ℕ) (o : Order) (d : ℕ) → orderOf line ≡ Is o → quiet (deedOf d o) ≡ true
-    → (soundTable t ≡ true → StopLeaves t d (deedOf d o)) → recordAt (commandCall t line reply .table) d ≡ recordAt t d
+command-left : (t line reply : List ℕ) (o : Order) (d : ℕ) → orderOf line ≡ Is o → (soundTable t ≡ true → Left t d (deedOf d o))
+    → recordAt (commandCall t line reply .table) d ≡ recordAt t d
 unfolding refused obeyed flagged
-command-left t line reply o d e q stop =
+command-left t line reply o d e q =
     let made : orderMade o ≡ true = rw e at (line-made line) in
-    let same : soundTable t ≡ true → recordAt (obeyedTable t (orderOf line)) d ≡ recordAt t d = λ s. rw e (changed-left t o d s made q (stop s)) in
+    let same : soundTable t ≡ true → recordAt (obeyedTable t (orderOf line)) d ≡ recordAt t d = λ s. rw e (changed-left t o d s made (q s)) in
     command-ways (λ a. recordAt (a .table) d ≡ recordAt t d) t line reply (λ n i. refl)
     (λ s v h. head-record t _ (sound-length t s) d) (λ s p f. rw f at (same s))
 
--- A line that is nothing to a channel leaves its record, and a stop leaves that of a motor that stands stopped.
+-- A line that is nothing to a channel leaves its record, a stop leaves that of a motor that stands stopped, and a line of pause that of
+-- one that it does not release.
 unreached : (t line reply : List ℕ) (o : Order) (d : ℕ) → orderOf line ≡ Is o → deedOf d o ≡ rests
     → recordAt (commandCall t line reply .table) d ≡ recordAt t d
-unreached t line reply o d e q =
-    command-left t line reply o d e (rw q) (λ s flags f. absurd (false≢true (cc (q, f))))
+unreached t line reply o d e q = command-left t line reply o d e (λ s. rw q tt)
 
 still : (t line reply : List ℕ) (o : Order) (flags d : ℕ) → AllBytes t → d ≤ 15 → orderOf line ≡ Is o → deedOf d o ≡ stops flags
     → busy (motorAt t d) ≡ false → recordAt (commandCall t line reply .table) d ≡ recordAt t d
 still t line reply o flags d bytes h e q stands =
-    command-left t line reply o d e (rw q) (λ s f k. (h, rw (stopped-again f (motorAt t d) stands) (written-back t d s bytes h)))
+    command-left t line reply o d e (λ s. rw q (h, rw (stopped-again flags (motorAt t d) stands) (written-back t d s bytes h)))
+
+unreleased : (t line reply : List ℕ) (o : Order) (k d : ℕ) → AllBytes t → d ≤ 15 → orderOf line ≡ Is o → deedOf d o ≡ pauses k
+    → (eqb k 0 && motorAt t d .drive .held) ≡ false → recordAt (commandCall t line reply .table) d ≡ recordAt t d
+unreleased t line reply o k d bytes h e q free =
+    command-left t line reply o d e
+    (λ s. rw q (λ off. (h, rw (released-free (motorAt t d) (rw off at free)) (written-back t d s bytes h))))
 
 -- A tick leaves that of a motor that does not move.
 unticked : (t p : List ℕ) (d : ℕ) → AllBytes t → d ≤ 15 → moving (motorAt t d) ≡ false → recordAt (tickCall t p .table) d ≡ recordAt t d
@@ -126,7 +149,7 @@ named-rests (ChangeSpeed y v) x d e ne = elsewhere y x d (speeds v) e ne
 named-rests (Set y s) x d e ne = elsewhere y x d (sets s) e ne
 named-rests (Ask y q) x d e ne = refl
 named-rests (AskHead q) x d e ne = refl
-named-rests (ForHead h) x d e ne = refl
+named-rests (ForHead h) x d e ne = absurd (false≢true e)
 
 -- Sixteen motors changed leave the head.
 pub motors-head : (t : List ℕ) (f : Motor → Motor) (i n : ℕ) → soundTable t ≡ true → i + n ≤ 64 → part (withMotors t f) i n ≡ part t i n
@@ -174,6 +197,7 @@ neighbours = record {
   others = λ t line reply o x d e n ne. unreached t line reply o d e (named-rests o x d n ne);
   unreached = unreached;
   stopped = still;
+  pausing = unreleased;
   unticked = unticked;
   readings = λ t c n d ne.
       reading-ways (λ a. recordAt (a .table) d ≡ recordAt t d) t c n (λ k i. refl) (λ s h. record-kept t c _ (sound-length t s) h d ne);

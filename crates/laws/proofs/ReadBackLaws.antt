@@ -19,9 +19,9 @@ use Rattle.drive.specs.Drives.{switchRead}
 use Rattle.pulses.specs.Ticks.{tickMotor}
 use Rattle.line.specs.declared.Setting.{Setting}
 use Rattle.line.specs.declared.Question.the-variants.{AskStatus}
-use Rattle.line.specs.declared.HeadQuestion.the-variants.{AskAllReply}
+use Rattle.line.specs.declared.HeadQuestion.the-variants.{AskAllReply, AskPause}
 use Rattle.line.specs.declared.HeadOrder.{HeadOrder}
-use Rattle.line.specs.declared.HeadOrder.the-variants.{Mode, AllReply, ClearErrors, ClearError}
+use Rattle.line.specs.declared.HeadOrder.the-variants.{Mode, AllReply, ClearErrors, ClearError, Pause}
 use Rattle.line.specs.declared.Order.{Order}
 use Rattle.line.specs.declared.Order.the-variants.{Go, Stop, StopAll, ChangeSpeed, Set, Ask, AskHead, ForHead}
 use Rattle.line.specs.declared.Parsed.{Parsed}
@@ -30,7 +30,7 @@ use Rattle.line.specs.Forms.{orderOf}
 use Rattle.line.specs.Made.{onBench, settingMade, orderMade}
 use Rattle.line.proofs.OrderLaws.{line-made}
 use Rattle.orders.specs.Values.{needsRemote, settingInRange, valueInRange}
-use Rattle.replies.specs.Replies.{questionText, allReplyText, headText}
+use Rattle.replies.specs.Replies.{questionText, allReplyText, pauseText, headText}
 use Rattle.status.specs.Status.{modeLetter, statusText}
 use Rattle.table.specs.Layout.{tableSize, headOf, withHead, withErrors, motorAt, withMotor, withMotors}
 use Rattle.table.specs.declared.head.Head.{Head}
@@ -39,7 +39,8 @@ use Rattle.table.proofs.TableLaws.{sound-length, sound-motor-at}
 use Rattle.table.proofs.HeadLaws.{same-head, head-back}
 use Rattle.table.proofs.KeptLaws.{head-kept}
 use Rattle.commands.specs.Judging.{meetsBusy, judgeMotor, judge}
-use Rattle.commands.specs.Changing.{headChanged, changed, flagged}
+use Rattle.commands.proofs.HeadOrderLaws.{freed-length}
+use Rattle.commands.specs.Changing.{headChanged, motorsFreed, changed, flagged}
 use Rattle.commands.proofs.ChannelLaws.{named, named-channel}
 use Rattle.commands.specs.Answers.{answer}
 use Rattle.obeying.specs.Taking.{refused, obeyed, taken}
@@ -49,7 +50,7 @@ use Rattle.laws.specs.Deeds.{verdict, sets, orderTaken, deedOf, deed}
 use Rattle.laws.specs.Ledger.{countAt}
 use Rattle.laws.specs.ReadBack.{questionFor, textFor, changes, headTopic, writesField, isSome, changesHead, ReadsBack}
 use Rattle.laws.specs.Neighbours.{ofHead}
-use Rattle.laws.proofs.DeedLaws.{Fits, fits-set, performed}
+use Rattle.laws.proofs.DeedLaws.{Fits, fits-set, performed, pausedIn}
 use Rattle.laws.proofs.Following.{Follows, order-follows, next}
 use Rattle.laws.proofs.CallWays.{sound-ways, reading-ways, tick-ways}
 use Rattle.laws.proofs.NeighbourLaws.{motors-head, changed-head}
@@ -156,11 +157,11 @@ told-on u later x s o h w = run-keeps (λ t. Tells (motorAt t x) s) (changes urq
     keeps t k o e told =
         let count = tick-count t k x o (w .channel) in
         rw (next t k o .follows x (w .channel) .motor)
-        (performed-tells (motorAt t x) (deed x t k) (countAt (after urqolina t k .buffer) x) s (sound-motor-at t x o (w .channel)) count (w .made) e told)
+        (performed-tells (pausedIn t) (motorAt t x) (deed x t k) (countAt (after urqolina t k .buffer) x) s (sound-motor-at t x o (w .channel)) count (w .made) e told)
 
--- the fields of the head, numbered as their orders are: 0 the mode, 1 all-reply, 2 the error flags
+-- the fields of the head, numbered as their orders are: 0 the mode, 1 all-reply, 2 the error flags, 3 pause
 abbrev field : ℕ → Head → ℕ
-field i h = cond (eqb 0 i) (h .mode) (cond (eqb 1 i) (h .reply) (cond (eqb 2 i) (h .errors) 0))
+field i h = cond (eqb 0 i) (h .mode) (cond (eqb 1 i) (h .reply) (cond (eqb 2 i) (h .errors) (cond (eqb 3 i) (h .pause) 0)))
 
 -- Error flags that are written leave the other fields.
 errors-field : (h : Head) (n i : ℕ) → eqb 2 i ≡ false → field i (withErrors h n) ≡ field i h
@@ -173,6 +174,7 @@ other-field h (Mode n) i e = rw e
 other-field h (AllReply n) i e = rw e
 other-field h ClearErrors i e = rw e
 other-field h (ClearError n) i e = rw e
+other-field h (Pause n) i e = rw e
 
 -- A field of the head is left by every call that takes no order to write it; the error flags aside, which refusals set.
 module _ (t : List ℕ) (s : soundTable t ≡ true) (i : ℕ) (l : eqb 2 i ≡ false) where
@@ -180,8 +182,8 @@ module _ (t : List ℕ) (s : soundTable t ≡ true) (i : ℕ) (l : eqb 2 i ≡ f
   whole = sound-length t s
 
   -- a head that is written
-  written : (h : Head) → field i h ≡ field i (headOf t) → field i (headOf (withHead t h)) ≡ field i (headOf t)
-  written h e = rw (head-back t h whole) e
+  written : (u : List ℕ) (h : Head) → length u ≡ tableSize → field i h ≡ field i (headOf t) → field i (headOf (withHead u h)) ≡ field i (headOf t)
+  written u h l e = rw (head-back u h l) e
 
   -- an order that is not of the head
   unwritten : (o : Order) → orderMade o ≡ true → ofHead o ≡ false → field i (headOf (changed t o)) ≡ field i (headOf t)
@@ -196,14 +198,14 @@ module _ (t : List ℕ) (s : soundTable t ≡ true) (i : ℕ) (l : eqb 2 i ≡ f
   order-field (Set x r) made e = unwritten (Set x r) made refl
   order-field (Ask x r) made e = unwritten (Ask x r) made refl
   order-field (AskHead r) made e = unwritten (AskHead r) made refl
-  order-field (ForHead o) made e = unfold changed in written (headChanged (headOf t) o) (other-field (headOf t) o i e)
+  order-field (ForHead o) made e = unfold changed in written (motorsFreed t o) (headChanged (headOf t) o) (freed-length t o whole) (other-field (headOf t) o i e)
 
   call-field : (k : Call) → changesHead i t k ≡ false → field i (headOf (after urqolina t k .table)) ≡ field i (headOf t)
   call-field k = go (outcome t k s)
     where
       go : {p : Parsed} {u : List ℕ} → Outcome t p u → isSome (writesField i) p ≡ false → field i (headOf u) ≡ field i (headOf t)
       go leaves e = refl
-      go (refuses n) e = unfold flagged in written _ (errors-field (headOf t) (withBit (flagBit n) (headOf t .errors)) i l)
+      go (refuses n) e = unfold flagged in written t _ whole (errors-field (headOf t) (withBit (flagBit n) (headOf t .errors)) i l)
       go (obeys o m j) e = order-field o m e
       go (motor x m h) e = rw (same-head t (withMotor t x m) (head-kept t x m whole h))
       go (motors f) e = rw (same-head t (withMotors t f) (λ j n h. motors-head t f j n s h))
@@ -217,7 +219,7 @@ field-on u later i n h o e w =
 -- The demand: what was set is answered, whatever came before, and whatever came since that did not change it.
 pub reads-back : (b : Beginning) (ks : List Call) (k : Call) (later : List Call) (line reply : List ℕ) (enough : 32 ≤ length reply)
     → ReadsBack urqolina b ks k later line reply enough
-unfolding judge needsRemote valueInRange meetsBusy judgeMotor changed headChanged answer headText allReplyText
+unfolding judge needsRemote valueInRange meetsBusy judgeMotor changed headChanged answer headText allReplyText pauseText
 reads-back b ks k later line reply enough =
     record {
       setting = λ x s e h q.
@@ -227,6 +229,9 @@ reads-back b ks k later line reply enough =
       modeHeld = λ n e h. kept 0 (Mode n) n refl e refl h;
       allReply = λ n e h q.
           read (AskHead AskAllReply) (cond (eqb n 1) (bytes "EN") (bytes "DS")) q refl refl (rw (kept 1 (AllReply n) n refl e refl h));
+      pauseHeld = λ n e h. kept 3 (Pause n) n refl e refl h;
+      pause = λ n e h q.
+          read (AskHead AskPause) (cond (eqb n 1) (bytes "ON") (bytes "OFF")) q refl refl (rw (kept 3 (Pause n) n refl e refl h));
       mode = λ n x e h q.
           let m = motorAt v x in
           rw (read (Ask x AskStatus) (questionText (headOf v .mode) x m AskStatus) q refl refl refl, status-letter reply (headOf v .mode) x m, kept 0 (Mode n) n refl e refl h);
@@ -254,4 +259,4 @@ reads-back b ks k later line reply enough =
     kept : (i : ℕ) (o : HeadOrder) (n : ℕ) → eqb 2 i ≡ false → orderTaken t k ≡ Is (ForHead o) → field i (headChanged (headOf t) o) ≡ n
         → never urqolina (changesHead i) u later ≡ true → field i (headOf v) ≡ n
     kept i o n h e c w =
-        field-on u later i n h sound w (rw (takes t k (ForHead o) start e .table, head-back t (headChanged (headOf t) o) (sound-length t start)) c)
+        field-on u later i n h sound w (rw (takes t k (ForHead o) start e .table, head-back (motorsFreed t o) (headChanged (headOf t) o) (freed-length t o (sound-length t start))) c)

@@ -8,12 +8,13 @@ use lib.Dec.{eqb}
 use borrow.Author.Tests.{ne-eqb, eqb-true, eqb-false, leb-true, not-false}
 use Rattle.record.specs.declared.Speeds.{Speeds}
 use Rattle.record.specs.declared.Motor.{Motor}
+use Rattle.record.specs.Record.{withDrive, letGo}
 use Rattle.motor.specs.Switches.{blocked}
 use Rattle.motor.specs.Sound.{busy, soundMotor}
 use Rattle.motor.proofs.SoundLaws.{and-l, and-r}
 use Rattle.drive.specs.declared.Course.{Course}
 use Rattle.drive.specs.declared.Course.the-variants.{Stay, Beyond, To, Along}
-use Rattle.drive.specs.Drives.{lsend, speedNumbered, started, endedWith, stopped, speedChanged, contacted, switchRead}
+use Rattle.drive.specs.Drives.{lsend, speedNumbered, started, released, endedWith, stopped, speedChanged, contacted, switchRead}
 use Rattle.pulses.specs.Ticks.{tickMotor, tickCount}
 use Rattle.pulses.proofs.TickLaws.{settings-stay}
 use Rattle.line.specs.declared.Four.{Four}
@@ -24,7 +25,7 @@ use Rattle.orders.specs.Values.{binaryDigits, settingInRange}
 use Rattle.orders.specs.Settings.{courseOf, withSpeed, binary, withSetting}
 use Rattle.orders.proofs.ValueLaws.{Binary, binary-bound}
 use Rattle.replies.specs.Replies.{switchesText, motorText, questionText}
-use Rattle.laws.specs.Deeds.{Deed, starts, stops, speeds, sets, reads, ticks, rests}
+use Rattle.laws.specs.Deeds.{Deed, starts, stops, speeds, sets, reads, ticks, pauses, rests}
 use Rattle.laws.specs.Ledger.{cwPulses, ccwPulses}
 use Rattle.laws.specs.ReadBack.{questionFor, fourText, textFor, topic, changedBy}
 use Rattle.laws.proofs.DeedLaws.{performed}
@@ -109,12 +110,12 @@ either-keeps : (b : Bool) (m n o : Motor) → Keeps m n none → Keeps m o none 
 either-keeps true m n o p q = p
 either-keeps false m n o p q = q
 
-started-keeps : (m : Motor) (c : Course) → Keeps m (started m c) none
+started-keeps : (q : Bool) (m : Motor) (c : Course) → Keeps m (started q m c) none
 unfolding started
-started-keeps m Stay = search
-started-keeps m Beyond = search
-started-keeps m (To p) = search
-started-keeps m (Along going) = search
+started-keeps q m Stay = search
+started-keeps q m Beyond = search
+started-keeps q m (To p) = search
+started-keeps q m (Along going) = search
 
 stopped-keeps : (m : Motor) (flags : ℕ) → Keeps m (stopped flags m) none
 unfolding stopped
@@ -124,6 +125,11 @@ read-keeps : (m : Motor) (n : ℕ) → Keeps m (switchRead m n) none
 unfolding switchRead
 read-keeps m n =
     either-keeps (busy m && blocked (m .drive .going) (contacted m n)) m (endedWith lsend (contacted m n)) (contacted m n) (search) (search)
+
+pause-keeps : (m : Motor) (k : ℕ) → Keeps m (cond (eqb k 0) (released m) m) none
+unfolding released
+pause-keeps m k =
+    either-keeps (eqb k 0) m (released m) m (either-keeps (m .drive .held) m (withDrive m (m .ended) (letGo (m .drive))) m (search) (search)) (search)
 
 -- A setting changes its own topic alone.
 never : {A : Type 0} {a b : A} → true ≡ false → a ≡ b
@@ -173,14 +179,15 @@ tick-changes (SetSwitches q r) n = refl
 tick-changes (SetMotor q) n = refl
 
 -- A setting is told until a deed changes it.
-pub performed-tells : (m : Motor) (d : Deed) (n : ℕ) (s : Setting) → soundMotor m ≡ true → (d ≡ ticks → n ≡ tickCount m) → settingMade s ≡ true
-    → changedBy s n d ≡ false → Tells m s → Tells (performed m d) s
+pub performed-tells : (q : Bool) (m : Motor) (d : Deed) (n : ℕ) (s : Setting) → soundMotor m ≡ true → (d ≡ ticks → n ≡ tickCount m) → settingMade s ≡ true
+    → changedBy s n d ≡ false → Tells m s → Tells (performed q m d) s
 unfolding performed changedBy speedChanged
-performed-tells m (starts r) n s o p h e told = kept-tells m (started m (courseOf m r)) none s (started-keeps m (courseOf m r)) h refl told
-performed-tells m (stops flags) n s o p h e told = kept-tells m (stopped flags m) none s (stopped-keeps m flags) h refl told
-performed-tells m (speeds v) n s o p h e told = kept-tells m (speedChanged m v) none s (search) h refl told
-performed-tells m (sets r) n s o p h e told = kept-tells m (withSetting m r) (λ j. eqb (topic r) j) s (set-keeps m r) h e told
-performed-tells m (reads c) n s o p h e told = kept-tells m (switchRead m c) none s (read-keeps m c) h refl told
-performed-tells m ticks n s o p h e told =
+performed-tells q m (starts r) n s o p h e told = kept-tells m (started q m (courseOf m r)) none s (started-keeps q m (courseOf m r)) h refl told
+performed-tells q m (stops flags) n s o p h e told = kept-tells m (stopped flags m) none s (stopped-keeps m flags) h refl told
+performed-tells q m (speeds v) n s o p h e told = kept-tells m (speedChanged m v) none s (search) h refl told
+performed-tells q m (sets r) n s o p h e told = kept-tells m (withSetting m r) (λ j. eqb (topic r) j) s (set-keeps m r) h e told
+performed-tells q m (reads c) n s o p h e told = kept-tells m (switchRead m c) none s (read-keeps m c) h refl told
+performed-tells q m ticks n s o p h e told =
     kept-tells m (tickMotor m .motor) (λ j. eqb j 0 && not (eqb n 0)) s (tick-keeps m n o (p refl)) h (sym (tick-changes s n) ∙ e) told
-performed-tells m rests n s o p h e told = told
+performed-tells q m (pauses k) n s o p h e told = kept-tells m (cond (eqb k 0) (released m) m) none s (pause-keeps m k) h refl told
+performed-tells q m rests n s o p h e told = told

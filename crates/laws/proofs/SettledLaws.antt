@@ -4,13 +4,14 @@ use mathlib.Core.Path.{_≡_, refl}
 use mathlib.Core.List.{List, [], _∷_}
 use mathlib.Core.Bool.{Bool, true, false, _&&_, cond}
 use Prim.Native.Nat.{ℕ, _≤_}
+use lib.Dec.{eqb}
 use Rattle.record.specs.declared.Motor.{Motor}
-use Rattle.record.specs.Record.{freshMotor}
+use Rattle.record.specs.Record.{freshMotor, withDrive, letGo}
 use Rattle.motor.specs.Switches.{blocked}
 use Rattle.motor.specs.Sound.{busy}
 use Rattle.drive.specs.declared.Course.{Course}
 use Rattle.drive.specs.declared.Course.the-variants.{Stay, Beyond, To, Along}
-use Rattle.drive.specs.Drives.{lsend, started, endedWith, stopped, speedChanged, contacted, switchRead}
+use Rattle.drive.specs.Drives.{lsend, started, released, endedWith, stopped, speedChanged, contacted, switchRead}
 use Rattle.pulses.specs.Ticks.{tickMotor}
 use Rattle.pulses.proofs.TickLaws.{SameSettings, settings-stay}
 use Rattle.line.specs.declared.Setting.{Setting}
@@ -20,11 +21,11 @@ use Rattle.table.specs.Layout.{motorAt, freshTable}
 use Rattle.table.specs.Sound.{soundTable}
 use Rattle.table.proofs.KeptLaws.{fresh-sound}
 use Rattle.laws.specs.Sequences.{urqolina, Call, after, run, Beginning, fromFresh, ran}
-use Rattle.laws.specs.Deeds.{Deed, starts, stops, speeds, sets, reads, ticks, rests, deed}
+use Rattle.laws.specs.Deeds.{Deed, starts, stops, speeds, sets, reads, ticks, pauses, rests, deed}
 use Rattle.laws.specs.Ledger.{settled, settings}
 use Rattle.laws.specs.Pulses.{Settled}
 use Rattle.laws.proofs.PartLaws.{fresh-motor}
-use Rattle.laws.proofs.DeedLaws.{performed}
+use Rattle.laws.proofs.DeedLaws.{performed, pausedIn}
 use Rattle.laws.proofs.Following.{next}
 use Rattle.laws.proofs.LastingLaws.{made-fresh}
 
@@ -38,12 +39,12 @@ same-on m n o p q =
       setup = rw (q .setup) (p .setup);
     }
 
-started-same : (m : Motor) (c : Course) → SameSettings m (started m c)
+started-same : (q : Bool) (m : Motor) (c : Course) → SameSettings m (started q m c)
 unfolding started
-started-same m Stay = search
-started-same m Beyond = search
-started-same m (To p) = search
-started-same m (Along going) = search
+started-same q m Stay = search
+started-same q m Beyond = search
+started-same q m (To p) = search
+started-same q m (Along going) = search
 
 either-same : (b : Bool) (m x y : Motor) → SameSettings m x → SameSettings m y → SameSettings m (cond b x y)
 either-same true m x y p q = p
@@ -61,18 +62,21 @@ set-same m n (SetSwitches q r) p = record { limits = p .limits; speeds = p .spee
 set-same m n (SetMotor q) p = record { limits = p .limits; speeds = p .speeds; wiring = p .wiring; setup = refl }
 
 -- Whatever a deed does to the motor n, its settings are what the deed makes of the settings m.
-pub performed-same : (m n : Motor) (d : Deed) → SameSettings m n → SameSettings (settled m d) (performed n d)
-unfolding settled performed stopped speedChanged switchRead
-performed-same m n (starts s) p = same-on m n (started n (courseOf n s)) p (started-same n (courseOf n s))
-performed-same m n (stops flags) p = same-on m n _ p (either-same (busy n) n (endedWith flags n) n (search) (search))
-performed-same m n (speeds v) p = same-on m n (speedChanged n v) p (search)
-performed-same m n (sets s) p = set-same m n s p
-performed-same m n (reads c) p =
+pub performed-same : (q : Bool) (m n : Motor) (d : Deed) → SameSettings m n → SameSettings (settled m d) (performed q n d)
+unfolding settled performed released stopped speedChanged switchRead
+performed-same q m n (starts s) p = same-on m n (started q n (courseOf n s)) p (started-same q n (courseOf n s))
+performed-same q m n (stops flags) p = same-on m n _ p (either-same (busy n) n (endedWith flags n) n (search) (search))
+performed-same q m n (speeds v) p = same-on m n (speedChanged n v) p (search)
+performed-same q m n (sets s) p = set-same m n s p
+performed-same q m n (reads c) p =
     let read : SameSettings (contacted m c) (contacted n c) = record { limits = p .limits; speeds = p .speeds; wiring = rw (p .wiring); setup = p .setup } in
     same-on (contacted m c) (contacted n c) _ read
     (either-same (busy n && blocked (n .drive .going) (contacted n c)) (contacted n c) (endedWith lsend (contacted n c)) (contacted n c) (search) (search))
-performed-same m n ticks p = same-on m n (tickMotor n .motor) p (settings-stay n)
-performed-same m n rests p = p
+performed-same q m n ticks p = same-on m n (tickMotor n .motor) p (settings-stay n)
+performed-same q m n (pauses k) p =
+    same-on m n _ p
+    (either-same (eqb k 0) n (released n) n (either-same (n .drive .held) n (withDrive n (n .ended) (letGo (n .drive))) n (search) (search)) (search))
+performed-same q m n rests p = p
 
 run-same : (c : ℕ) → c ≤ 15 → (t : List ℕ) (ks : List Call) (m : Motor) → soundTable t ≡ true → SameSettings m (motorAt t c)
     → SameSettings (settings urqolina c t m ks) (motorAt (run urqolina t ks) c)
@@ -80,7 +84,7 @@ unfolding run settings
 run-same c on t [] m s p = p
 run-same c on t (k ∷ ks) m s p =
     let then : SameSettings (settled m (deed c t k)) (motorAt (after urqolina t k .table) c) =
-    rw (next t k s .follows c on .motor) (performed-same m (motorAt t c) (deed c t k) p) in
+    rw (next t k s .follows c on .motor) (performed-same (pausedIn t) m (motorAt t c) (deed c t k) p) in
     run-same c on (after urqolina t k .table) ks (settled m (deed c t k)) (next t k s .sound) then
 
 pub settled-so : (b : Beginning) (c : ℕ) → c ≤ 15 → (ks : List Call) → Settled urqolina b c ks

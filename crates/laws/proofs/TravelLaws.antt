@@ -10,17 +10,20 @@ use borrow.Author.Tests.{eq-eqb, eqb-true, ltb-true, ltb-false}
 use Rattle.digits.specs.Places.{countOf, cw}
 use Rattle.digits.proofs.WordLaws.{word-bytes}
 use Rattle.record.specs.declared.Motor.{Motor}
+use Rattle.record.specs.Record.{withDrive, letGo}
 use Rattle.motor.specs.Switches.{blocked}
 use Rattle.motor.specs.Sound.{busy, soundMotor}
 use Rattle.motor.proofs.SoundLaws.{sound-bounds}
 use Rattle.drive.specs.declared.Course.{Course}
 use Rattle.drive.specs.declared.Course.the-variants.{Stay, Beyond, To, Along}
-use Rattle.drive.specs.Drives.{lsend, started, endedWith, stopped, speedChanged, contacted, switchRead}
+use Rattle.drive.specs.Drives.{lsend, started, released, endedWith, stopped, speedChanged, contacted, switchRead}
 use Rattle.pulses.specs.Ticks.{tickMotor, tickCount}
 use Rattle.pulses.proofs.TickLaws.{place-moves}
 use Rattle.pulses.proofs.TickSound.{tick-sound, pulses-bound}
 use Rattle.line.specs.declared.Setting.{Setting}
 use Rattle.line.specs.declared.Setting.the-variants.{Preset, SetCwLimit, SetCcwLimit, Select, SetSpeed, SetSwitches, SetMotor}
+use Rattle.line.specs.declared.HeadOrder.{HeadOrder}
+use Rattle.line.specs.declared.HeadOrder.the-variants.{Mode, AllReply, ClearErrors, ClearError, Pause}
 use Rattle.line.specs.declared.Order.{Order}
 use Rattle.line.specs.declared.Order.the-variants.{Go, Stop, StopAll, ChangeSpeed, Set, Ask, AskHead, ForHead}
 use Rattle.line.specs.declared.Parsed.{Parsed}
@@ -32,7 +35,7 @@ use Rattle.table.specs.Sound.{soundTable}
 use Rattle.table.proofs.TableLaws.{sound-length, sound-motor-at}
 use Rattle.urqolina.specs.Calls.{tickCall}
 use Rattle.laws.specs.Sequences.{urqolina, Call, command, reading, tick, after}
-use Rattle.laws.specs.Deeds.{Deed, starts, stops, speeds, sets, reads, ticks, rests, deedIf, orderTaken, deedOf, deedTaken, deed, isTick}
+use Rattle.laws.specs.Deeds.{Deed, starts, stops, speeds, sets, reads, ticks, pauses, rests, deedIf, orderTaken, headDeed, deedOf, deedTaken, deed, isTick}
 use Rattle.laws.specs.Ledger.{countAt, cwPulses, ccwPulses, Travel, resetBy, travelled}
 use Rattle.laws.proofs.PartLaws.{counts-part}
 use Rattle.laws.proofs.DeedLaws.{performed}
@@ -113,6 +116,14 @@ unfolding isTick
 if-tick true d e = e
 if-tick false d e = refl
 
+head-tick : (h : HeadOrder) → isTick (headDeed h) ≡ false
+unfolding isTick
+head-tick (Mode k) = refl
+head-tick (AllReply k) = refl
+head-tick ClearErrors = refl
+head-tick (ClearError e) = refl
+head-tick (Pause k) = refl
+
 order-tick : (c : ℕ) (o : Order) → isTick (deedOf c o) ≡ false
 unfolding deedOf isTick
 order-tick c (Go x s) = if-tick (eqb x c) (starts s) refl
@@ -122,7 +133,7 @@ order-tick c (ChangeSpeed x v) = if-tick (eqb x c) (speeds v) refl
 order-tick c (Set x s) = if-tick (eqb x c) (sets s) refl
 order-tick c (Ask x q) = refl
 order-tick c (AskHead q) = refl
-order-tick c (ForHead h) = refl
+order-tick c (ForHead h) = head-tick h
 
 pub taken-tick : (c : ℕ) (p : Parsed) → isTick (deedTaken c p) ≡ false
 taken-tick c (Is o) = order-tick c o
@@ -139,12 +150,12 @@ tick-count t (tick p) c s h e = go (eqb (length p) 64) refl e
     go false q e = absurd (false≢true (ap isTick e))
 
 -- Nothing but a preset and a tick changes a place.
-started-place : (m : Motor) (c : Course) → started m c .place ≡ m .place
+started-place : (p : Bool) (m : Motor) (c : Course) → started p m c .place ≡ m .place
 unfolding started
-started-place m Stay = refl
-started-place m Beyond = refl
-started-place m (To p) = refl
-started-place m (Along going) = refl
+started-place p m Stay = refl
+started-place p m Beyond = refl
+started-place p m (To q) = refl
+started-place p m (Along going) = refl
 
 either-place : (b : Bool) (x y : Motor) (p : ℕ) → x .place ≡ p → y .place ≡ p → cond b x y .place ≡ p
 either-place true x y p a b = a
@@ -165,14 +176,16 @@ set-kept m j (SetSwitches q r) h = h
 set-kept m j (SetMotor q) h = h
 
 -- Whatever a deed does, the place is the preset, and the pulses since.
-pub performed-kept : (m : Motor) (d : Deed) (n : ℕ) (j : Travel) → soundMotor m ≡ true → (d ≡ ticks → n ≡ tickCount m) → Kept m j
-    → Kept (performed m d) (travelled n j d)
-unfolding performed travelled stopped speedChanged switchRead
-performed-kept m (starts s) n j o p h = rw (started-place m (courseOf m s)) h
-performed-kept m (stops flags) n j o p h = rw (either-place (busy m) (endedWith flags m) m (m .place) refl refl) h
-performed-kept m (speeds v) n j o p h = h
-performed-kept m (sets s) n j o p h = set-kept m j s h
-performed-kept m (reads c) n j o p h =
+pub performed-kept : (q : Bool) (m : Motor) (d : Deed) (n : ℕ) (j : Travel) → soundMotor m ≡ true → (d ≡ ticks → n ≡ tickCount m) → Kept m j
+    → Kept (performed q m d) (travelled n j d)
+unfolding performed travelled released stopped speedChanged switchRead
+performed-kept q m (starts s) n j o p h = rw (started-place q m (courseOf m s)) h
+performed-kept q m (stops flags) n j o p h = rw (either-place (busy m) (endedWith flags m) m (m .place) refl refl) h
+performed-kept q m (speeds v) n j o p h = h
+performed-kept q m (sets s) n j o p h = set-kept m j s h
+performed-kept q m (reads c) n j o p h =
     rw (either-place (busy m && blocked (m .drive .going) (contacted m c)) (endedWith lsend (contacted m c)) (contacted m c) (m .place) refl refl) h
-performed-kept m ticks n j o p h = rw (p refl) (omega (arith, tick-moves m o, h))
-performed-kept m rests n j o p h = h
+performed-kept q m ticks n j o p h = rw (p refl) (omega (arith, tick-moves m o, h))
+performed-kept q m (pauses k) n j o p h =
+    rw (either-place (eqb k 0) (released m) m (m .place) (either-place (m .drive .held) (withDrive m (m .ended) (letGo (m .drive))) m (m .place) refl refl) refl) h
+performed-kept q m rests n j o p h = h

@@ -36,6 +36,10 @@ pub or-true : (a : Bool) → (a || true) ≡ true
 or-true true = refl
 or-true false = refl
 
+pub or-false : (a : Bool) → (a || false) ≡ a
+or-false true = refl
+or-false false = refl
+
 -- "every field is in its range", topic by topic
 pub record InRange (m : Motor) : Type 0 where
   pub place : isPosition (m .place) ≡ true

@@ -63,5 +63,9 @@ pub fn write_either(out: &mut [u8], on: bool, a: &[u8], b: &[u8]) -> usize
     requires { ⌜ (length (now a) ≤ length (now out)) × (length (now b) ≤ length (now out)) ⌝ }
     ensures { λ r. ⌜ Wrote (now (out .entry)) (now (out .exit)) (cond on (now (a .entry)) (now (b .entry))) r ⌝ }
 {
-    if on { write_text(out, a) } else { write_text(out, b) }
+    if on {
+        write_text(out, a)
+    } else {
+        write_text(out, b)
+    }
 }
