@@ -1,5 +1,6 @@
 -- The calls computed on cases beyond document 01's marked ones: the order of the refusals, the replies, settings read back,
--- bare numbers, switch readings, contacts that are unknown, and inputs that no call may take. Each list is one statement, and its proof is the computation.
+-- bare numbers, switch readings, contacts that are unknown, drives that are held, and inputs that no call may take. Each list is one
+-- statement, and its proof is the computation.
 use mathlib.Core.Path.{_≡_, refl}
 use mathlib.Core.List.{List, [], _∷_, _++_, map}
 use Prim.Native.Nat.{ℕ}
@@ -128,6 +129,51 @@ sound-contacts :
 unfolding computing-urqolina fresh after left
 sound-contacts = (refl, refl, refl, refl)
 
+-- 02 §3: "While on .., an accepted start is a held drive", "OFF releases all". REL 0 holds nothing; a held channel is busy to settings and
+-- starts, REL 0 too, SPC sets its coming speed, and ticks give it nothing until its release. Stops and the switch of its direction end
+-- it, with their flags, in both modes; the other switch and HP end nothing. What runs already runs on. LOC and REM leave pause, and in
+-- local mode neither ON nor OFF is taken.
+pausing : List (List Step)
+pausing =
+    (reads 0 0 0 ∷ says "REM" 0 "" ∷ says "PAUSE?" 0 "OFF" ∷ says "PAUSE ON" 0 "" ∷ says "REL0+0" 0 "" ∷ says "STS0?" 0 "R0S000+0000000" ∷ says "REL0+3" 0 ""
+    ∷ says "REL0+0" 2 "" ∷ says "ABS0+0" 2 "" ∷ says "PS0+5" 2 "" ∷ says "SPDH0" 2 "" ∷ says "SETMT01100" 2 "" ∷ says "SPC00" 3 "" ∷ says "SPC01000" 0 ""
+    ∷ ticks 0 cw 0 ∷ says "STS0?" 0 "R0S001+0000000" ∷ says "PAUSE ON" 0 "" ∷ says "PAUSE OFF" 0 "" ∷ ticks 0 cw 1 ∷ ticks 0 cw 1 ∷ says "STS0?" 0 "R0P003+0000002"
+    ∷ ticks 0 cw 1 ∷ says "STS0?" 0 "R0S000+0000003" ∷ says "PAUSE OFF" 0 "" ∷ [])
+    ∷ (reads 0 0 0 ∷ reads 1 0 0 ∷ says "REM" 0 "" ∷ says "PAUSE ON" 0 "" ∷ says "SCANP0" 0 "" ∷ says "SCANN1" 0 "" ∷ reads 0 6 0 ∷ says "STS0?" 0 "R0S601+0000000"
+    ∷ reads 1 5 0 ∷ says "STS1?" 0 "R1S501+0000000" ∷ says "LOC" 0 "" ∷ reads 1 2 0 ∷ says "STS1?" 0 "L1S220+0000000" ∷ says "ESTP0" 0 "" ∷ says "STS0?" 0 "L0S680+0000000"
+    ∷ says "PAUSE?" 0 "ON" ∷ ticks 0 cw 0 ∷ [])
+    ∷ (reads 0 0 0 ∷ reads 1 0 0 ∷ says "REM" 0 "" ∷ says "SPDM01000" 0 "" ∷ says "SCANP0" 0 "" ∷ says "PAUSE ON" 0 "" ∷ says "JOGN1" 0 "" ∷ ticks 0 cw 1
+    ∷ says "LOC" 0 "" ∷ says "PAUSE OFF" 4 "" ∷ says "PAUSE ON" 4 "" ∷ says "STS1?" 0 "L1S001+0000000" ∷ says "REM" 0 "" ∷ says "STS1?" 0 "R1S001+0000000" ∷ says "ASSTP" 0 ""
+    ∷ says "STS0?" 0 "R0S040+0000001" ∷ says "STS1?" 0 "R1S040+0000000" ∷ says "ALL_REP EN" 0 "OK" ∷ says "PAUSE OFF" 0 "OK" ∷ says "PAUSE?" 0 "OFF" ∷ says "PAUSE" 1 "COMMAND ERROR"
+    ∷ says "PAUSE  ON" 1 "COMMAND ERROR" ∷ [])
+    ∷ []
+
+pausing-checked : map (seen fresh) pausing ≡ map (λ c. map stated c) pausing
+unfolding computing-urqolina pausing fresh after seen stated
+pausing-checked = refl
+
+-- "a held record is sound only under pause, and otherwise as a driving one": what a tick gives on a table with one byte changed, the
+-- record of channel 0 from byte 64 on. Bytes 26, 27, 31, 32, 34, 40 and 44 of it stand at 90, 91, 95, 96, 98, 104 and 108.
+abbrev waiting : List Step
+waiting = reads 0 0 0 ∷ says "REM" 0 "" ∷ says "PAUSE ON" 0 "" ∷ []
+
+unfoldable heldThree : List ℕ
+heldThree = left fresh (waiting ++ (says "REL0+3" 0 "" ∷ []))
+
+unfoldable heldScan : List ℕ
+heldScan = left fresh (waiting ++ (says "SCANP0" 0 "" ∷ []))
+
+sound-held :
+    (changed fresh 3 1 ∷ changed fresh 3 2 ∷ [] ≡ 0 ∷ 6 ∷ []) × (tickCall (left fresh (started ++ (says "PAUSE ON" 0 "" ∷ []))) (lent 64) .result ≡ 0)
+    × (changed heldThree 3 1 ∷ changed heldThree 3 0 ∷ [] ≡ 0 ∷ 6 ∷ [])
+    × (changed (left fresh started) 96 3 ∷ changed (put (left fresh started) 3 (1 ∷ [])) 96 3 ∷ [] ≡ 6 ∷ 0 ∷ [])
+    × (changed heldThree 96 5 ∷ changed heldThree 96 4 ∷ changed heldScan 96 4 ∷ changed heldScan 96 5 ∷ changed heldScan 96 0 ∷ [] ≡ 6 ∷ 6 ∷ 0 ∷ 6 ∷ 6 ∷ [])
+    × (changed heldThree 95 0x40 ∷ changed heldThree 91 0 ∷ changed heldThree 108 0 ∷ changed heldThree 90 1 ∷ changed heldThree 90 2 ∷ [] ≡ 6 ∷ 6 ∷ 6 ∷ 6 ∷ 0 ∷ [])
+    × (changed heldThree 104 0 ∷ changed heldThree 98 5 ∷ changed (put heldThree 101 (0 ∷ [])) 100 0 ∷ [] ≡ 6 ∷ 0 ∷ 6 ∷ [])
+    × (changed (put heldScan 68 (0 ∷ 0 ∷ 0 ∷ [])) 89 0xf0 ≡ 6)
+unfolding computing-urqolina fresh after left heldThree heldScan
+sound-held = (refl, refl, refl, refl, refl, refl, refl, refl)
+
 -- A stop of one channel leaves the drive of another; ASSTP and AESTP stop all that drive and leave the end flags of the rest.
 stops : List Step
 stops =
@@ -159,7 +205,7 @@ bad-calls :
     × (tickCall (replicate 1088 0xff) (lent 64) ≡ record { result = 6; table = replicate 1088 0xff; pulses = lent 64 })
     × (tickCall fresh (lent 65) ≡ record { result = 5; table = fresh; pulses = lent 65 })
     × (readingCall (put fresh 1087 (1 ∷ [])) 0 0 ≡ record { result = 6; table = put fresh 1087 (1 ∷ []) })
-    × (map (λ at. tickCall (put fresh at (1 ∷ [])) (lent 64) .result) (0 ∷ 1 ∷ 2 ∷ 3 ∷ 63 ∷ []) ≡ 0 ∷ 0 ∷ 0 ∷ 6 ∷ 6 ∷ [])
+    × (map (λ at. tickCall (put fresh at (1 ∷ [])) (lent 64) .result) (0 ∷ 1 ∷ 2 ∷ 3 ∷ 4 ∷ 63 ∷ []) ≡ 0 ∷ 0 ∷ 0 ∷ 0 ∷ 6 ∷ 6 ∷ [])
     × (map (λ at. tickCall (put fresh at (16 ∷ [])) (lent 64) .result) (0 ∷ 1 ∷ 2 ∷ []) ≡ 6 ∷ 6 ∷ 6 ∷ [])
 unfolding computing-urqolina fresh
 bad-calls = (refl, refl, refl, refl, refl, refl, refl, refl, refl, refl)

@@ -15,14 +15,14 @@ use Rattle.line.specs.Forms.{lspd, mspd, hspd, ssend, esend, orderOf}
 use Rattle.line.specs.declared.Order.{Order}
 use Rattle.laws.specs.Computing.{computing-laws}
 use Rattle.laws.specs.Sequences.{Call, command, reading, tick, urqolina, fromFresh, ran, never}
-use Rattle.laws.specs.Deeds.{names, starts, stops, speeds, sets, reads, ticks, rests, deedTaken, deed}
+use Rattle.laws.specs.Deeds.{names, starts, stops, speeds, sets, reads, ticks, pauses, rests, deedTaken, deed}
 use Rattle.laws.specs.Ledger.{countAt, cwPulses, ccwPulses, Account, noDrive, ticksIn, noTravel, travelled}
 use Rattle.laws.specs.Numbers.{asks}
 use Rattle.laws.specs.Neighbours.{ofHead}
 use Rattle.laws.specs.ReadBack.{textFor, topic, changedBy, changes, writesField, isSome, changesHead}
 use Rattle.laws.specs.Pulses.{accountNow, travelNow, settingsNow, disturbs, distance, lastTick}
 use Rattle.laws.specs.Contacts.{untold, toldNow}
-use Rattle.cases.proofs.Beginnings.{lent, says, ticked, ready, running, over}
+use Rattle.cases.proofs.Beginnings.{lent, says, ticked, ready, running, over, aimedAt, underPause, waiting}
 
 -- The account of channel 0 after a sequence. Fresh has MSPD selected, 800 pps: from a start on, the pulses are the thousands in
 -- 800, 1600, 2400, .., so 0, 1, 1, 1, 1.
@@ -61,7 +61,7 @@ second-account = refl
 -- ticks.
 target-account :
     accountAfter (ready ++ (says "SPDM05000000" ∷ says "ABS0+1" ∷ ticked ∷ []))
-    ≡ over cw 5000000 5000000 1
+    ≡ aimedAt (origin + 1) (over cw 5000000 5000000 1)
 unfolding computing-laws
 target-account = refl
 
@@ -81,6 +81,19 @@ refused-tick-account :
     ≡ running cw 800 0 0
 unfolding computing-laws
 refused-tick-account = refl
+
+-- 02 §3: a drive that starts under pause is held, and the ticks that come add nothing, S = 0 and P = 0, until an accepted PAUSE OFF; from
+-- then on they count, with the speed that SPC set: S = 3 · 400, P = 1. One that runs already counts on under pause: S = 2 · 800. REL 0
+-- holds nothing, a stop ends what is held, and PAUSE OFF in local mode (4) releases nothing.
+held-accounts :
+    (accountAfter (ready ++ (says "PAUSE ON" ∷ says "SCANP0" ∷ ticked ∷ ticked ∷ [])) ≡ waiting cw 800)
+    × (accountAfter (ready ++ (says "PAUSE ON" ∷ says "SCANN0" ∷ says "SPC0400" ∷ ticked ∷ says "PAUSE OFF" ∷ ticked ∷ ticked ∷ ticked ∷ [])) ≡ running ccw 400 1200 1)
+    × (accountAfter (ready ++ (says "SCANP0" ∷ says "PAUSE ON" ∷ ticked ∷ ticked ∷ [])) ≡ underPause (running cw 800 1600 1))
+    × (accountAfter (ready ++ (says "PAUSE ON" ∷ says "REL0+0" ∷ ticked ∷ [])) ≡ underPause noDrive)
+    × (accountAfter (ready ++ (says "PAUSE ON" ∷ says "SCANP0" ∷ says "LOC" ∷ says "PAUSE OFF" ∷ ticked ∷ [])) ≡ waiting cw 800)
+    × (accountAfter (ready ++ (says "PAUSE ON" ∷ says "SCANP0" ∷ says "SSTP0" ∷ [])) .lasts ≡ false)
+unfolding computing-laws
+held-accounts = (refl, refl, refl, refl, refl, refl)
 
 -- "sixteen signed 32-bit counts, CW positive": 3, and -2 as the word FFFFFFFEh, in the words of channels 0 and 1.
 counts-told :
@@ -157,6 +170,19 @@ driving-deeds :
 unfolding computing-laws drivingTable
 driving-deeds = refl
 
+-- 02 §3: the lines of pause are to every channel what they make of pause, in remote mode; on a held channel a start or a setting is
+-- refused (2), REL 0 and ABS to the present position too, and SPC, a stop and a reading are taken.
+unfoldable heldTable : List ℕ
+heldTable = ran urqolina lent (ready ++ (says "PAUSE ON" ∷ says "SCANP0" ∷ []))
+
+pause-deeds :
+    (map (deed 5 remoteTable) (says "PAUSE ON" ∷ says "PAUSE OFF" ∷ says "PAUSE?" ∷ says "PAUSE" ∷ []) ≡ pauses 1 ∷ pauses 0 ∷ rests ∷ rests ∷ [])
+    × (map (deed 5 localTable) (says "PAUSE ON" ∷ says "PAUSE OFF" ∷ []) ≡ rests ∷ rests ∷ [])
+    × (map (deed 0 heldTable) (says "SCANP0" ∷ says "REL0+0" ∷ says "ABS0+0" ∷ says "PS0+5" ∷ says "SPDH0" ∷ []) ≡ replicate 5 rests)
+    × (map (deed 0 heldTable) (says "SPC0400" ∷ says "ESTP0" ∷ reading 0 1 ∷ []) ≡ speeds 400 ∷ stops esend ∷ reads 1 ∷ [])
+unfolding computing-laws localTable remoteTable heldTable
+pause-deeds = (refl, refl, refl, refl)
+
 -- Read-back: "a sign (+ for 0) and at least 7 digits; speeds, at least 6; `SPD?` HSPD, MSPD or LSPD"; "-0 is 0".
 texts :
     map textFor
@@ -188,53 +214,74 @@ changed-by :
 unfolding computing-laws
 changed-by = (refl, refl, refl, refl)
 
--- The mode is changed by an accepted LOC or REM, in both modes; all-reply by an accepted ALL_REP EN or DS, in remote mode only.
+-- The mode is changed by an accepted LOC or REM, in both modes; all-reply by an accepted ALL_REP EN or DS, and pause by an accepted PAUSE
+-- ON or OFF, in remote mode only.
 head-changes :
     (map (changesHead 0 localTable) (says "REM" ∷ says "LOC" ∷ says "LOCX" ∷ says "ASSTP" ∷ []) ≡ true ∷ true ∷ false ∷ false ∷ [])
     × (changesHead 1 localTable (says "ALL_REP EN") ≡ false) × (changesHead 1 remoteTable (says "ALL_REP EN") ≡ true)
+    × (map (changesHead 3 remoteTable) (says "PAUSE ON" ∷ says "PAUSE OFF" ∷ says "LOC" ∷ says "SCANP0" ∷ says "ASSTP" ∷ ticked ∷ [])
+    ≡ true ∷ true ∷ false ∷ false ∷ false ∷ false ∷ [])
+    × (changesHead 3 localTable (says "PAUSE ON") ≡ false)
 unfolding computing-laws localTable remoteTable
-head-changes = (refl, refl, refl)
+head-changes = (refl, refl, refl, refl, refl)
 
 -- "ends at tick D·1000/v rounded up": ABS0-3 from position 0 at 800 pps is 3 pulses away, 3.75 ticks, so the fourth. A refused
 -- tick "is not counted in the last-tick formula".
+abbrev aimed : List Call
+aimed = ready ++ (says "ABS0-3" ∷ [])
+
 last-tick :
-    (distance urqolina lent 0 [] (says "ABS0-3") (origin - 3) [] ≡ 3)
-    × (lastTick urqolina lent 0 [] (says "ABS0-3") (origin - 3) [] ≡ 4)
+    (distance urqolina lent 0 aimed (origin - 3) [] ≡ 3)
+    × (lastTick urqolina lent 0 aimed (origin - 3) [] ≡ 4)
+    × (accountAfter aimed ≡ aimedAt (origin - 3) (running ccw 800 0 0))
     × (ticksIn urqolina 0 localTable noDrive (ticked ∷ says "PS?0" ∷ tick [] ∷ ticked ∷ reading 0 0 ∷ []) ≡ 2)
 unfolding computing-laws localTable
-last-tick = (refl, refl, refl)
+last-tick = (refl, refl, refl, refl)
+
+-- 02 §3: "01's last-tick formula counts from release", with the speed in force there: 3 pulses at 1,000 pps end with the third tick that
+-- counts, and of these five ticks the two after PAUSE OFF do.
+abbrev awaiting : List Call
+awaiting = ready ++ (says "PAUSE ON" ∷ says "REL0+3" ∷ says "SPC01000" ∷ [])
+
+last-from-release :
+    (lastTick urqolina lent 0 awaiting (origin + 3) [] ≡ 3)
+    × (ticksIn urqolina 0 (ran urqolina lent awaiting) (accountAfter awaiting) (ticked ∷ ticked ∷ ticked ∷ says "PAUSE OFF" ∷ ticked ∷ ticked ∷ []) ≡ 2)
+    × (accountAfter awaiting ≡ aimedAt (origin + 3) (waiting cw 1000))
+unfolding computing-laws
+last-from-release = (refl, refl, refl)
 
 -- Orders of each kind, and a line that is none: what is a read, what is of the head, what changes the mode or all-reply, what names
 -- channel 0, and what it is to channel 0.
 abbrev kinds : List (List ℕ)
 kinds =
     map bytes
-    ("SCANP0" ∷ "SSTP0" ∷ "ASSTP" ∷ "SPC0400" ∷ "SPDM0" ∷ "PS?0" ∷ "LOC" ∷ "ALL_REP DS" ∷ "ERRF?" ∷ "ERRC" ∷ "ERRC1" ∷ "SCANP" ∷ [])
+    ("SCANP0" ∷ "SSTP0" ∷ "ASSTP" ∷ "SPC0400" ∷ "SPDM0" ∷ "PS?0" ∷ "LOC" ∷ "ALL_REP DS" ∷ "ERRF?" ∷ "ERRC" ∷ "ERRC1" ∷ "SCANP" ∷ "PAUSE ON" ∷ "PAUSE OFF" ∷ "PAUSE?" ∷ [])
 
 abbrev ofKind : (Order → Bool) → List Bool
 ofKind test = map (λ s. isSome test (orderOf s)) kinds
 
 each-kind :
-    (ofKind asks ≡ false ∷ false ∷ false ∷ false ∷ false ∷ true ∷ false ∷ false ∷ true ∷ false ∷ false ∷ false ∷ [])
-    × (ofKind ofHead ≡ false ∷ false ∷ false ∷ false ∷ false ∷ false ∷ true ∷ true ∷ false ∷ true ∷ true ∷ false ∷ [])
-    × (ofKind (writesField 0) ≡ false ∷ false ∷ false ∷ false ∷ false ∷ false ∷ true ∷ false ∷ false ∷ false ∷ false ∷ false ∷ [])
-    × (ofKind (writesField 1) ≡ false ∷ false ∷ false ∷ false ∷ false ∷ false ∷ false ∷ true ∷ false ∷ false ∷ false ∷ false ∷ [])
-    × (ofKind (names 0) ≡ true ∷ true ∷ false ∷ true ∷ true ∷ true ∷ false ∷ false ∷ false ∷ false ∷ false ∷ false ∷ [])
-    × (ofKind (names 1) ≡ replicate 12 false)
+    (ofKind asks ≡ false ∷ false ∷ false ∷ false ∷ false ∷ true ∷ false ∷ false ∷ true ∷ false ∷ false ∷ false ∷ false ∷ false ∷ true ∷ [])
+    × (ofKind ofHead ≡ false ∷ false ∷ false ∷ false ∷ false ∷ false ∷ true ∷ true ∷ false ∷ true ∷ true ∷ false ∷ true ∷ true ∷ false ∷ [])
+    × (ofKind (writesField 0) ≡ false ∷ false ∷ false ∷ false ∷ false ∷ false ∷ true ∷ false ∷ false ∷ false ∷ false ∷ false ∷ false ∷ false ∷ false ∷ [])
+    × (ofKind (writesField 1) ≡ false ∷ false ∷ false ∷ false ∷ false ∷ false ∷ false ∷ true ∷ false ∷ false ∷ false ∷ false ∷ false ∷ false ∷ false ∷ [])
+    × (ofKind (writesField 3) ≡ replicate 12 false ++ (true ∷ true ∷ false ∷ []))
+    × (ofKind (names 0) ≡ true ∷ true ∷ false ∷ true ∷ true ∷ true ∷ replicate 9 false)
+    × (ofKind (names 1) ≡ replicate 15 false)
 unfolding computing-laws
-each-kind = (refl, refl, refl, refl, refl, refl)
+each-kind = (refl, refl, refl, refl, refl, refl, refl)
 
 deeds-of-kinds :
     map (λ s. deedTaken 0 (orderOf s)) kinds
     ≡ starts (Scan cw) ∷ stops ssend ∷ stops ssend ∷ speeds 400 ∷ sets (Select mspd) ∷ rests ∷ rests ∷ rests ∷ rests ∷ rests ∷ rests ∷ rests
-    ∷ []
+    ∷ pauses 1 ∷ pauses 0 ∷ rests ∷ []
 unfolding computing-laws
 deeds-of-kinds = refl
 
 -- "with no stop, SPC or switch reading on its channel".
 disturbing :
-    map disturbs (starts (Scan cw) ∷ stops ssend ∷ speeds 400 ∷ sets (Select mspd) ∷ reads 0 ∷ ticks ∷ rests ∷ [])
-    ≡ false ∷ true ∷ true ∷ false ∷ true ∷ false ∷ false ∷ []
+    map disturbs (starts (Scan cw) ∷ stops ssend ∷ speeds 400 ∷ sets (Select mspd) ∷ reads 0 ∷ ticks ∷ pauses 0 ∷ pauses 1 ∷ rests ∷ [])
+    ≡ false ∷ true ∷ true ∷ false ∷ true ∷ false ∷ false ∷ false ∷ false ∷ []
 unfolding computing-laws
 disturbing = refl
 

@@ -17,11 +17,12 @@ use Rattle.digits.specs.Words.{wordBytes, withoutBit}
 use Rattle.digits.specs.Places.{origin, cw}
 use Rattle.text.specs.Text.{bytes, same}
 use Rattle.record.specs.declared.Wiring.{Wiring}
+use Rattle.record.specs.declared.Drive.{Drive}
 use Rattle.record.specs.declared.Motor.{Motor}
-use Rattle.record.specs.Record.{withWiring, withDrive, withFraction}
+use Rattle.record.specs.Record.{withWiring, withDrive, withFraction, withSpeedInForce}
 use Rattle.motor.specs.Sound.{busy}
 use Rattle.drive.specs.Numbers.{numberOf}
-use Rattle.drive.specs.Drives.{stopped, contacted}
+use Rattle.drive.specs.Drives.{selectedSpeed, released, stopped, contacted}
 use Rattle.line.specs.declared.Start.the-variants.{Rel, Scan}
 use Rattle.line.specs.declared.Setting.the-variants.{Preset, SetCwLimit}
 use Rattle.line.specs.declared.Question.the-variants.{AskStatus}
@@ -30,7 +31,7 @@ use Rattle.line.specs.declared.Order.{Order}
 use Rattle.line.specs.declared.Order.the-variants.{Go, Stop, Set, ForHead}
 use Rattle.line.specs.declared.Parsed.the-variants.{Is, Nothing}
 use Rattle.line.specs.Forms.{ssend, orderOf}
-use Rattle.table.specs.Layout.{headOf, withHead, withReply, motorAt, withMotor, withMotors, freshTable}
+use Rattle.table.specs.Layout.{headOf, withHead, withReply, withPause, motorAt, withMotor, withMotors, freshTable}
 use Rattle.table.specs.Sound.{soundTable}
 use Rattle.commands.specs.Judging.{judge}
 use Rattle.commands.specs.Changing.{flagged}
@@ -38,14 +39,14 @@ use Rattle.obeying.specs.Taking.{CommandAfter}
 use Rattle.urqolina.specs.Calls.{TickAfter, freshCall, commandCall, readingCall, tickCall}
 use Rattle.laws.specs.Computing.{computing-laws}
 use Rattle.laws.specs.Sequences.{Library, Call, urqolina, command, reading, tick, After, Beginning, ran}
-use Rattle.laws.specs.Deeds.{Deed, starts, stops, speeds, sets, reads, ticks, rests, deed, isTick, orderTaken}
+use Rattle.laws.specs.Deeds.{Deed, starts, stops, speeds, sets, reads, ticks, pauses, rests, deed, isTick, orderTaken}
 use Rattle.laws.specs.Ledger.{countAt, Account, Travel}
 use Rattle.laws.specs.Numbers.{Numbers, Replies, sizesRight, asks}
 use Rattle.laws.specs.Neighbours.{Neighbours}
 use Rattle.laws.specs.ReadBack.{ReadsBack, isSome}
 use Rattle.laws.specs.Pulses.{motorNow, accountNow, travelNow, settingsNow, Ends, byStop, bySwitch, byTarget, byRoom, Demand3, Settled}
 use Rattle.laws.specs.Contacts.{toldNow, Contacts}
-use Rattle.cases.proofs.Beginnings.{lent, says, ticked, ready, running}
+use Rattle.cases.proofs.Beginnings.{lent, says, ticked, ready, running, underPause}
 
 -- Demand 3 for every channel and every sequence, and read-back for every sequence and every read that is lent enough.
 abbrev pub AllDemand3 : Library → Type 0
@@ -119,15 +120,25 @@ refuses-ticks-refused =
     too-few refusesTicks (ready ++ (says "SCANP0" ∷ tick (replicate 64 0) ∷ tick (replicate 64 0) ∷ []))
     (running cw 800 1600 0) refl refl (omega arith)
 
--- a deed is a start
+-- the kinds of deeds, numbered, and those that the libraries below look for
+abbrev pub kindOf : Deed → ℕ
+kindOf (starts s) = 0
+kindOf (stops flags) = 1
+kindOf (speeds v) = 2
+kindOf (sets s) = 3
+kindOf (reads n) = 4
+kindOf ticks = 5
+kindOf (pauses k) = 6
+kindOf rests = 7
+
 abbrev pub isStart : Deed → Bool
-isStart (starts s) = true
-isStart (stops flags) = false
-isStart (speeds v) = false
-isStart (sets s) = false
-isStart (reads n) = false
-isStart ticks = false
-isStart rests = false
+isStart d = eqb (kindOf d) 0
+
+abbrev pub isStop : Deed → Bool
+isStop d = eqb (kindOf d) 1
+
+abbrev pub isSetting : Deed → Bool
+isSetting d = eqb (kindOf d) 3
 
 -- A drive that stands still at +1 while its ticks come, at 1000 pps: with the second tick S = 2000 is a thousand above 1000 · P, and
 -- has to be less.
@@ -159,7 +170,7 @@ feignsStarts =
 pub feigns-starts-refused : AllDemand3 feignsStarts → ⊥
 unfolding computing-laws
 feigns-starts-refused d =
-    let fact : false ≡ true = d lent 0 (omega arith) firstDrive .starting (says "SCANP0") (Scan cw) refl refl in
+    let fact : false ≡ true = d lent 0 (omega arith) firstDrive .starting (says "SCANP0") (Scan cw) refl refl .0 in
     absurd (false≢true fact)
 
 -- Or a drive stands in the table and its ticks do nothing: S = 1600, P = 0 for the second drive.
@@ -277,8 +288,8 @@ nothing-ended : Ends endsDrives lent 0 scanning ticked → ⊥
 unfolding computing-laws
 nothing-ended (byStop flags e f) = absurd (false≢true (sym (ap isTick e)))
 nothing-ended (bySwitch n e h f) = absurd (false≢true (sym (ap isTick e)))
-nothing-ended (byTarget e h there f) = absurd (false≢true h)
-nothing-ended (byRoom e h f) =
+nothing-ended (byTarget e counts h there f) = absurd (false≢true h)
+nothing-ended (byRoom e counts h f) =
     let fact : _≡_ {A = ℕ} 2147483647 0 = h in
     absurd (omega (arith, fact))
 
@@ -287,15 +298,6 @@ unfolding computing-laws
 ends-drives-refused d = nothing-ended (d lent 0 (omega arith) scanning .ending ticked refl refl)
 
 -- A stop of channel 0 that is answered OK and stops nothing: "A stop ends the drive at once".
-abbrev pub isStop : Deed → Bool
-isStop (starts s) = false
-isStop (stops flags) = true
-isStop (speeds v) = false
-isStop (sets s) = false
-isStop (reads n) = false
-isStop ticks = false
-isStop rests = false
-
 abbrev pub deafToStops : Library
 deafToStops =
     withCommand
@@ -528,15 +530,6 @@ unfolding computing-laws
 reads-closed-refused = told-other readsClosed (reading 0 0 ∷ []) 0 1 refl refl (λ e. absurd (omega (arith, e)))
 
 -- The end of a drive zeroes byte 44 too, or SETLS forgets the reading.
-abbrev pub isSetting : Deed → Bool
-isSetting (starts s) = false
-isSetting (stops flags) = false
-isSetting (speeds v) = false
-isSetting (sets s) = true
-isSetting (reads n) = false
-isSetting ticks = false
-isSetting rests = false
-
 pub forgets-refused : (AllContacts (forgetsAfter isStop) → ⊥) × (AllContacts (forgetsAfter isSetting) → ⊥)
 unfolding computing-laws
 forgets-refused = (
@@ -598,3 +591,107 @@ shows-unread-refused r =
     let told = r t (bytes "STS0?") (replicate 32 0) refl (omega arith) .reads 0 AskStatus refl in
     let fact : _≡_ {A = ℕ} (code "7") (code "0") = ap (λ (a : After). getD (a .buffer) 3 0) told in
     absurd (omega (arith, fact))
+
+-- 02 §3, "Start together", misread. The library that is ours but for what one line leaves in the table, and channel 0 held:
+abbrev pub afterLine : S.String → (List ℕ → List ℕ → List ℕ) → Library
+afterLine s f =
+    withCommand
+    (λ t line reply.
+    let a = commandCall t line reply in
+    record { result = a .result; table = cond (same line (bytes s)) (f t (a .table)) (a .table); reply = a .reply })
+
+abbrev held : List Call
+held = ready ++ (says "PAUSE ON" ∷ says "SCANP0" ∷ [])
+
+-- PAUSE ON freezes what runs: two ticks at 800 pps, S = 1600, P = 0.
+abbrev pub frozen : Motor → Motor
+frozen m =
+    cond (busy m)
+    (withDrive m (m .ended) (record { going = m .drive .going; held = true; kind = m .drive .kind; fraction = m .drive .fraction; speed = m .drive .speed; target = m .drive .target }))
+    m
+
+abbrev pub freezes : Library
+freezes = afterLine "PAUSE ON" (λ t u. withMotors u frozen)
+
+pub freezes-refused : AllDemand3 freezes → ⊥
+unfolding computing-laws
+freezes-refused =
+    too-few freezes (scanning ++ (says "PAUSE ON" ∷ ticked ∷ ticked ∷ [])) (underPause (running cw 800 1600 0)) refl refl (omega arith)
+
+-- A held drive gathers its fraction while it waits: after one tick of waiting at 800 pps its first tick gives a pulse, P = 1, S = 800.
+abbrev pub gathering : Motor → Motor
+gathering m = cond (m .drive .held) (withDrive m (m .ended) (withFraction (m .drive) ((m .drive .fraction + m .drive .speed) % 1000))) m
+
+abbrev pub gathers : Library
+gathers = withTick (λ t p. let a = tickCall t p in record { result = a .result; table = withMotors (a .table) gathering; pulses = a .pulses })
+
+pub gathers-refused : AllDemand3 gathers → ⊥
+unfolding computing-laws
+gathers-refused = too-many gathers (held ++ (ticked ∷ says "PAUSE OFF" ∷ ticked ∷ [])) (running cw 800 800 1) refl (omega arith)
+
+-- PAUSE OFF that is answered OK and does nothing: by the table the drive is held for ever, by the accepted lines S = 1600 and P = 0.
+abbrev pub neverReleases : Library
+neverReleases = afterLine "PAUSE OFF" (λ t u. t)
+
+pub never-releases-refused : AllDemand3 neverReleases → ⊥
+unfolding computing-laws
+never-releases-refused =
+    too-few neverReleases (held ++ (says "PAUSE OFF" ∷ ticked ∷ ticked ∷ [])) (running cw 800 1600 0) refl refl (omega arith)
+
+-- PAUSE OFF that clears head byte 3 and releases none, and one that releases channel 0 alone: a held drive does not move after it.
+abbrev pub releasesNone : Library
+releasesNone = afterLine "PAUSE OFF" (λ t u. withHead t (withPause (headOf t) 0))
+
+abbrev pub releasesOne : Library
+releasesOne = afterLine "PAUSE OFF" (λ t u. withMotor (withHead t (withPause (headOf t) 0)) 0 (released (motorAt t 0)))
+
+pub releases-few-refused : (AllDemand3 releasesNone → ⊥) × (AllDemand3 releasesOne → ⊥)
+unfolding computing-laws
+releases-few-refused = (
+  (λ d. absurd (false≢true (d lent 0 (omega arith) held .releasing (says "PAUSE OFF") refl .0))),
+  (λ d. absurd (false≢true (d lent 1 (omega arith) (reading 1 0 ∷ held ++ (says "SCANN1" ∷ [])) .releasing (says "PAUSE OFF") refl .0))),
+)
+
+-- A stop on a held motor that is taken for one on a stopped motor, and a reading that does not end a held drive.
+abbrev pub stopsRunning : Library
+stopsRunning =
+    withCommand
+    (λ t line reply.
+    cond (isStop (deed 0 t (command line reply)) && motorAt t 0 .drive .held) (record { result = 0; table = t; reply = reply }) (commandCall t line reply))
+
+abbrev pub switchesRunning : Library
+switchesRunning =
+    record {
+      fresh = freshCall;
+      command = commandCall;
+      reading = λ t c n. cond (motorAt t c .drive .held) (record { result = 0; table = withMotor t c (contacted (motorAt t c) n) }) (readingCall t c n);
+      tick = tickCall;
+    }
+
+pub ends-running-alone-refused : (AllDemand3 stopsRunning → ⊥) × (AllDemand3 switchesRunning → ⊥)
+unfolding computing-laws
+ends-running-alone-refused = (
+  (λ d. absurd (false≢true (sym (d lent 0 (omega arith) held .stopping (says "SSTP0") ssend refl)))),
+  (λ d. absurd (false≢true (sym (d lent 0 (omega arith) held .switching (reading 0 1) 1 refl refl)))),
+)
+
+-- The release loads the selected speed, so that SPC is lost: 800 where 400 is due.
+abbrev pub reloaded : Motor → Motor
+reloaded m = withDrive m (m .ended) (withSpeedInForce (m .drive) (selectedSpeed m))
+
+abbrev pub reloads : Library
+reloads = afterLine "PAUSE OFF" (λ t u. withMotor u 0 (reloaded (motorAt u 0)))
+
+pub reloads-refused : AllDemand3 reloads → ⊥
+unfolding computing-laws
+reloads-refused d =
+    let kept = d lent 0 (omega arith) (held ++ (says "SPC0400" ∷ [])) .releasing (says "PAUSE OFF") refl .1 in
+    let fact : _≡_ {A = ℕ} 800 400 = ap (λ (x : Drive). x .speed) kept in
+    absurd (omega (arith, fact))
+
+-- REL 0 under pause is held: a drive that no start began.
+pub holds-nothing-refused : AllDemand3 (takesFor "REL0+0" "REL0+1") → ⊥
+unfolding computing-laws
+holds-nothing-refused d =
+    let fact : false ≡ true = d lent 0 (omega arith) (ready ++ (says "PAUSE ON" ∷ says "REL0+0" ∷ [])) .lasting in
+    absurd (false≢true fact)
