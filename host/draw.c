@@ -11,7 +11,8 @@
 enum { HEAD = 64, RECORD = 64 };
 enum { POSITION = 0, CW_LIMIT = 4, CCW_LIMIT = 8, HSPD = 12, SELECTED = 24, SETLS = 25, CONTACTS = 26, SETMT = 27, ENDED = 31 };
 enum { GOING = 32, KIND = 33, FRACTION = 34, SPEED = 36, TARGET = 40, READ = 44 };
-enum { STOPPED, CW, CCW };
+enum { STOPPED, CW, CCW, HELD = 2 };
+enum { MODE = 0, ALL_REPLY = 1, FLAGS = 2, PAUSE = 3 };
 
 static const int64_t END = 2147483647;
 
@@ -145,8 +146,9 @@ static void make_room(struct draw *d, uint8_t *record, int64_t sign)
         put(limit, (uint32_t)within(position + sign * (1 + (int64_t)draw_below(d, 6000))));
 }
 
-/* A drive, of a channel that was read: a scan, or to a target that is often one ahead; the fraction often 999. */
-static void draw_drive(struct draw *d, uint8_t *record)
+/* A drive, of a channel that was read: a scan, or to a target that is often one ahead; the fraction often 999. Under pause it is held
+   half the time. */
+static void draw_drive(struct draw *d, uint8_t *record, bool paused)
 {
     bool cw = draw_once_in(d, 2);
     int64_t sign = cw ? 1 : -1;
@@ -155,7 +157,7 @@ static void draw_drive(struct draw *d, uint8_t *record)
         release(record, cw ? 0 : 1);
     make_room(d, record, sign);
     record[SETMT] = 1;
-    record[GOING] = cw ? CW : CCW;
+    record[GOING] = (uint8_t)((cw ? CW : CCW) + (paused && draw_once_in(d, 2) ? HELD : 0));
     uint32_t fraction = draw_once_in(d, 2) ? 999 : draw_below(d, 1000);
     record[FRACTION] = (uint8_t)fraction;
     record[FRACTION + 1] = (uint8_t)(fraction >> 8);
@@ -173,14 +175,15 @@ void draw_sound_table(struct draw *d, uint8_t *table)
     static const uint8_t ends[] = {0, 0x20, 0x40, 0x80};
     uint32_t driving = draw_below(d, 5);
     memset(table, 0, URQOLINA_TABLE_SIZE);
-    table[0] = draw_once_in(d, 5) ? 0 : 1;
-    table[1] = (uint8_t)draw_below(d, 2);
-    table[2] = (uint8_t)draw_below(d, 16);
+    table[MODE] = draw_once_in(d, 5) ? 0 : 1;
+    table[ALL_REPLY] = (uint8_t)draw_below(d, 2);
+    table[FLAGS] = (uint8_t)draw_below(d, 16);
+    table[PAUSE] = (uint8_t)draw_below(d, 2);
     for (int c = 0; c < 16; c++) {
         uint8_t *record = table + HEAD + RECORD * c;
         draw_settings(d, record);
         if (draw_below(d, 4) < driving)
-            draw_drive(d, record);
+            draw_drive(d, record, table[PAUSE] == 1);
         else
             record[ENDED] = ends[draw_below(d, 4)];
     }
@@ -200,6 +203,7 @@ void draw_damage(struct draw *d, uint8_t *table)
     case 1: byte = table + draw_below(d, HEAD); break;
     case 2: break;
     case 3: byte = record + (draw_once_in(d, 2) ? CONTACTS : READ); break;
+    case 4: byte = draw_once_in(d, 2) ? table + PAUSE : record + GOING; break;
     default: byte = record + SELECTED + draw_below(d, READ + 2 - SELECTED); break;
     }
     if (draw_once_in(d, 2))
@@ -217,7 +221,7 @@ static const char *const forms[] = {
     "SPCxu",  "PSxs",   "FLxs",   "BLxs",   "SPDHx",  "SPDMx",  "SPDLx",      "SPDHxu",     "SPDMxu",         "SPDLxu",
     "PS?x",   "FL?x",   "BL?x",   "SPD?x",  "SPDH?x", "SPDM?x", "SPDL?x",     "SETLS?x",    "SETMT?x",        "STSx?",
     "LOC",    "REM",    "ERRF?",  "ERR?",   "ERRC",   "ERRCe",  "ALL_REP EN", "ALL_REP DS", "SETLSxyyyy0yyy", "SETMTxyyzy",
-    "ALL_REP?"};
+    "ALL_REP?", "PAUSE ON", "PAUSE OFF", "PAUSE?"};
 
 /* A signed number: near the channel's position, its limits or the ends of the range, small, or anything. */
 static int64_t draw_signed(struct draw *d, const uint8_t *record)
@@ -314,8 +318,10 @@ size_t draw_line(struct draw *d, const uint8_t *table, uint8_t *line)
     uint32_t channel = draw_once_in(d, 4) ? draw_below(d, 16) : often[draw_below(d, sizeof often)];
     const char *form = forms[draw_below(d, sizeof forms / sizeof forms[0])];
     uint8_t *at = line;
-    if (table[0] == 0 && draw_once_in(d, 3))
+    if (table[MODE] == 0 && draw_once_in(d, 3))
         form = "REM";
+    else if (table[PAUSE] == 1 && draw_once_in(d, 10))
+        form = "PAUSE OFF";
     for (; *form != '\0'; form++)
         at = put_field(d, at, *form, channel, table + HEAD + RECORD * channel);
     return (size_t)(at - line);
@@ -324,7 +330,7 @@ size_t draw_line(struct draw *d, const uint8_t *table, uint8_t *line)
 /* A byte that lines have, or any. */
 static uint8_t draw_byte(struct draw *d)
 {
-    static const char some[] = "0123456789ABCDEFGHLMNPRSTX+-?_ abf\r\n/:;@`";
+    static const char some[] = "0123456789ABCDEFGHLMNOPRSTUX+-?_ abf\r\n/:;@`";
     return draw_once_in(d, 3) ? (uint8_t)draw_below(d, 256) : (uint8_t)some[draw_below(d, sizeof some)];
 }
 

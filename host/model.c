@@ -1,5 +1,5 @@
 /*
- * Document 01 as amended by §1 and §2 of document 02, in plain C, written from the documents alone. It is compared with
+ * Document 01 as amended by §1 to §3 of document 02, in plain C, written from the documents alone. It is compared with
  * the proved library call by call, and the library's speed is measured beside it. Words in quotation marks are document
  * 01's, unless document 02 is named beside them.
  */
@@ -13,7 +13,7 @@
 enum { HEAD_SIZE = 64, RECORD_SIZE = 64, MOTORS = 16, TABLE_SIZE = 1088, REPLY_LEAST = 32, PULSES_SIZE = 64 };
 
 /* Places in the head. */
-enum { MODE = 0, ALL_REPLY = 1, ERROR_FLAGS = 2, HEAD_ZEROS = 3 };
+enum { MODE = 0, ALL_REPLY = 1, ERROR_FLAGS = 2, PAUSE = 3, HEAD_ZEROS = 4 };
 
 /* Places in a record. */
 enum {
@@ -31,7 +31,7 @@ enum {
     SETMT_C = 29,
     SETMT_D = 30,
     END_FLAGS = 31,
-    DIRECTION = 32,
+    STATE = 32,
     KIND = 33,
     FRACTION = 34,
     SPEED_IN_FORCE = 36,
@@ -45,8 +45,12 @@ enum { SPEED_L = 0, SPEED_M = 1, SPEED_H = 2 };
 enum { ESEND = 0x80, SSEND = 0x40, LSEND = 0x20, NO_END = 0 };
 enum { SCAN = 0, TO_TARGET = 1 };
 
-/* A direction's number is also the bit of its switch in the contacts: "bit 0 CW, bit 1 CCW". */
-enum { STOPPED = 0, CW = 1, CCW = 2 };
+/*
+ * Byte 32. A direction's number is also the bit of its switch in the contacts: "bit 0 CW, bit 1 CCW". A held drive's
+ * number, 02 §3: "3 (CW) or 4 (CCW)", is no such bit; it lies HELD above its direction's.
+ */
+enum { STOPPED = 0, CW = 1, CCW = 2, HELD_CW = 3, HELD_CCW = 4 };
+enum { HELD = HELD_CW - CW };
 
 /* SETLS as a byte, DYYY0yyy: D, the three enables from bit 4 on, the fixed 0, the three polarities from bit 0 on. */
 enum { SETLS_DIGITAL = 0x80, SETLS_ENABLES = 4, SETLS_FIXED = 0x08, ALL_CONTACTS = 7 };
@@ -112,6 +116,24 @@ static inline uint8_t *motor_of(uint8_t *table, uint32_t channel)
 
 /* ---- Switches, room and drives ---- */
 
+/* 02 §3: "A held channel counts as driving for busy, stops and switch readings, but gets no pulses". */
+static inline bool busy(const uint8_t *motor)
+{
+    return motor[STATE] != STOPPED;
+}
+
+static inline bool moving(const uint8_t *motor)
+{
+    return motor[STATE] == CW || motor[STATE] == CCW;
+}
+
+/* The direction of a drive, held or not; 0 for a stopped motor. */
+static inline uint32_t direction_of(const uint8_t *motor)
+{
+    uint32_t state = motor[STATE];
+    return state > CCW ? state - HELD : state;
+}
+
 /* "closed and N.O., or open and N.C.": the contact differs from the polarity. For contacts that are known. */
 static inline uint32_t active_switches(const uint8_t *motor)
 {
@@ -149,7 +171,7 @@ static inline int64_t target_distance(const uint8_t *motor, uint32_t direction)
 static inline void end_drive(uint8_t *motor, uint8_t flags)
 {
     motor[END_FLAGS] = flags;
-    memset(motor + DIRECTION, 0, CONTACTS_KNOWN - DIRECTION);
+    memset(motor + STATE, 0, CONTACTS_KNOWN - STATE);
 }
 
 /* ---- Soundness ---- */
@@ -207,11 +229,14 @@ static inline bool known_sound(const uint8_t *motor)
     return motor[CONTACTS_KNOWN] == 1 || (motor[CONTACTS_KNOWN] | motor[CONTACTS]) == 0;
 }
 
-/* Bytes 32 to 63 of a driving record, whose settings are sound. 02 §2: "a driving record has 1" in byte 44. */
-static bool drive_sound(const uint8_t *motor)
+/*
+ * Bytes 32 to 63 of a busy record, whose settings are sound; a held one "otherwise as a driving one", 02 §3. 02 §2: "a
+ * driving record has 1" in byte 44.
+ */
+static bool drive_sound(const uint8_t *motor, uint32_t state_most)
 {
-    uint32_t direction = motor[DIRECTION];
-    if (direction != CW && direction != CCW)
+    uint32_t direction = direction_of(motor);
+    if (!busy(motor) || motor[STATE] > state_most)
         return false;
     if (motor[CONTACTS_KNOWN] != 1 || zeros_bits(motor) != 0)
         return false;
@@ -221,29 +246,31 @@ static bool drive_sound(const uint8_t *motor)
 }
 
 /* A stopped record has zeros from 32 to 43 and from 45 to its end; one with a bit set there must be a sound drive. */
-static bool motor_sound(const uint8_t *motor)
+static bool motor_sound(const uint8_t *motor, uint32_t state_most)
 {
     if (!settings_sound(motor) || !known_sound(motor))
         return false;
     uint64_t bits = any_bits(motor + 32) | any_bits(motor + 36) | zeros_bits(motor);
-    return bits == 0 || drive_sound(motor);
+    return bits == 0 || drive_sound(motor, state_most);
 }
 
-/* The zeros are looked at from 3 to 10 and from 8 on. */
+/* The zeros are looked at from 4 to 11 and from 8 on. */
 static bool head_sound(const uint8_t *table)
 {
     uint64_t bits = any_bits(table + HEAD_ZEROS);
     for (size_t place = 8; place < HEAD_SIZE; place += 8)
         bits |= any_bits(table + place);
-    return table[MODE] <= REMOTE && table[ALL_REPLY] <= 1 && table[ERROR_FLAGS] <= 15 && bits == 0;
+    return table[MODE] <= REMOTE && table[ALL_REPLY] <= 1 && table[ERROR_FLAGS] <= 15 && table[PAUSE] <= 1 && bits == 0;
 }
 
+/* 02 §3: "a held record is sound only under pause". A record can't tell that, so the head sets the most of byte 32. */
 static bool table_sound(const uint8_t *table)
 {
     if (!head_sound(table))
         return false;
+    uint32_t state_most = table[PAUSE] == 0 ? CCW : HELD_CCW;
     for (const uint8_t *motor = table + HEAD_SIZE; motor < table + TABLE_SIZE; motor += RECORD_SIZE)
-        if (!motor_sound(motor))
+        if (!motor_sound(motor, state_most))
             return false;
     return true;
 }
@@ -267,8 +294,9 @@ enum verb {
     GO_TO, GO_BY, JOG, GO_SCAN, CHANGE_SPEED,
     STOP, STOP_ALL,
     SET_PLACE, SELECT_OR_SET_SPEED, SET_LS, SET_MT,
-    SET_MODE, SET_ALL_REPLY, CLEAR_ERRORS,
-    READ_PLACE, READ_SELECTED, READ_SPEED, READ_LS, READ_MT, READ_STATUS, READ_ALL_REPLY, READ_FLAGS, READ_ERROR
+    SET_MODE, SET_ALL_REPLY, SET_PAUSE, CLEAR_ERRORS,
+    READ_PLACE, READ_SELECTED, READ_SPEED, READ_LS, READ_MT, READ_STATUS, READ_ALL_REPLY, READ_PAUSE, READ_FLAGS,
+    READ_ERROR
 };
 
 /* The detail is the direction, end flag, place in the record, speed or value that tells forms of one verb apart. */
@@ -328,6 +356,9 @@ static const struct form FORMS_L[] = {
 static const struct form FORMS_P[] = {
     FORM("PS?", CHANNEL, READ, READ_PLACE, POSITION),
     FORM("PS", CHANNEL_SIGNED, REMOTE_STOPPED, SET_PLACE, POSITION),
+    FORM("PAUSE?", NOTHING, READ, READ_PAUSE, 0),
+    FORM("PAUSE ON", NOTHING, REMOTE_ONLY, SET_PAUSE, 1),
+    FORM("PAUSE OFF", NOTHING, REMOTE_ONLY, SET_PAUSE, 0),
     NO_FORM
 };
 static const struct form FORMS_R[] = {
@@ -595,41 +626,42 @@ static uint32_t speed_place(uint32_t speed)
 
 /*
  * "A start takes the selected speed, fraction 0, and clears the end flags." A stopped motor's fraction is 0 already.
- * 02 §2: "a start on an unread channel is 4, after the target check", whatever switches are enabled.
+ * 02 §2: "a start on an unread channel is 4, after the target check", whatever switches are enabled. 02 §3: under pause
+ * "an accepted start is a held drive"; byte 32 alone tells it from one that runs.
  */
-static uint32_t start(uint8_t *motor, uint8_t direction, uint8_t kind, int32_t target)
+static uint32_t start(const uint8_t *table, uint8_t *motor, uint8_t direction, uint8_t kind, int32_t target)
 {
     if (motor[SETMT_A] == 0 || motor[CONTACTS_KNOWN] == 0 || switch_ahead(motor, direction) ||
         room(motor, direction) < 1)
         return NG;
     motor[END_FLAGS] = NO_END;
-    motor[DIRECTION] = direction;
+    motor[STATE] = (uint8_t)(table[PAUSE] == 0 ? direction : direction + HELD);
     motor[KIND] = kind;
     store4(motor + SPEED_IN_FORCE, load4(motor + speed_place(motor[SELECTED])));
     store4(motor + TARGET, (uint32_t)target);
     return OK;
 }
 
-/* "ABS to the present position, REL 0 [...] are OK and change nothing", on an unread channel too. */
-static uint32_t start_to(uint8_t *motor, int64_t target)
+/* "ABS to the present position, REL 0 [...] are OK and change nothing", on an unread channel and under pause too. */
+static uint32_t start_to(const uint8_t *table, uint8_t *motor, int64_t target)
 {
     int32_t position = load_signed(motor + POSITION);
     if (target == position)
         return OK;
     if (target < -POSITION_MOST || target > POSITION_MOST)
         return PARAMETER_ERROR;
-    return start(motor, target > position ? CW : CCW, TO_TARGET, (int32_t)target);
+    return start(table, motor, target > position ? CW : CCW, TO_TARGET, (int32_t)target);
 }
 
-static uint32_t start_by(uint8_t *motor, int32_t distance)
+static uint32_t start_by(const uint8_t *table, uint8_t *motor, int32_t distance)
 {
-    return start_to(motor, (int64_t)load_signed(motor + POSITION) + distance);
+    return start_to(table, motor, (int64_t)load_signed(motor + POSITION) + distance);
 }
 
 /* A stop on a stopped motor is OK and changes nothing. */
 static void stop(uint8_t *motor, uint8_t flag)
 {
-    if (motor[DIRECTION] != STOPPED)
+    if (busy(motor))
         end_drive(motor, flag);
 }
 
@@ -639,10 +671,25 @@ static void stop_all(uint8_t *table, uint8_t flag)
         stop(motor_of(table, channel), flag);
 }
 
-/* "SPC replaces the speed in force and keeps the fraction." */
+/*
+ * 02 §3: "OFF releases all". A motor that runs or is stopped has its direction in byte 32 already. A released drive
+ * keeps the fraction 0 of its start and the speed of its last SPC, so its ticks count from here.
+ */
+static void set_pause(uint8_t *table, uint8_t pause)
+{
+    table[PAUSE] = pause;
+    if (pause != 0)
+        return;
+    for (uint32_t channel = 0; channel < MOTORS; channel++) {
+        uint8_t *motor = motor_of(table, channel);
+        motor[STATE] = (uint8_t)direction_of(motor);
+    }
+}
+
+/* "SPC replaces the speed in force and keeps the fraction." 02 §3: "on a held motor sets its coming speed". */
 static uint32_t change_speed(uint8_t *motor, uint32_t speed)
 {
-    if (motor[DIRECTION] == STOPPED)
+    if (!busy(motor))
         return NG;
     store4(motor + SPEED_IN_FORCE, speed);
     return OK;
@@ -664,24 +711,24 @@ static uint32_t refusal(const uint8_t *table, const uint8_t *motor, const struct
         return NG;
     if (!order->in_range)
         return PARAMETER_ERROR;
-    if (order->form->taken == REMOTE_STOPPED && motor[DIRECTION] != STOPPED)
+    if (order->form->taken == REMOTE_STOPPED && busy(motor))
         return BUSY_ERROR;
     return OK;
 }
 
 /* The orders that meet checks after busy. */
-static uint32_t drive(uint8_t *motor, const struct order *order)
+static uint32_t drive(const uint8_t *table, uint8_t *motor, const struct order *order)
 {
     uint8_t detail = order->form->detail;
     switch (order->form->verb) {
     case GO_TO:
-        return start_to(motor, order->number);
+        return start_to(table, motor, order->number);
     case GO_BY:
-        return start_by(motor, order->number);
+        return start_by(table, motor, order->number);
     case JOG:
-        return start_by(motor, detail == CW ? 1 : -1);
+        return start_by(table, motor, detail == CW ? 1 : -1);
     case GO_SCAN:
-        return start(motor, detail, SCAN, 0);
+        return start(table, motor, detail, SCAN, 0);
     default:
         return change_speed(motor, order->speed);
     }
@@ -715,11 +762,14 @@ static uint32_t obey(uint8_t *table, uint8_t *motor, const struct order *order)
     case SET_ALL_REPLY:
         table[ALL_REPLY] = detail;
         return OK;
+    case SET_PAUSE:
+        set_pause(table, detail);
+        return OK;
     case CLEAR_ERRORS:
         table[ERROR_FLAGS] = (uint8_t)(table[ERROR_FLAGS] & ~order->number);
         return OK;
     default:
-        return drive(motor, order);
+        return drive(table, motor, order);
     }
 }
 
@@ -739,12 +789,13 @@ static const struct text NUMBER_TEXTS[] = {
 static const struct text OTHER_ERROR = TEXT("OTHER ERROR");
 static const struct text NO_ERROR = TEXT("NO ERROR");
 
-/* By the selected speed; by all-reply. */
+/* By the selected speed; by all-reply; by pause. */
 static const struct text SPEED_TEXTS[] = {TEXT("LSPD"), TEXT("MSPD"), TEXT("HSPD")};
 static const struct text ALL_REPLY_TEXTS[] = {TEXT("DS"), TEXT("EN")};
+static const struct text PAUSE_TEXTS[] = {TEXT("OFF"), TEXT("ON")};
 
 static const uint8_t HEX[] = "0123456789ABCDEF";
-static const uint8_t DIRECTION_LETTERS[] = "SPN";
+static const uint8_t STATE_LETTERS[] = "SPNSS";
 
 static size_t write_text(uint8_t *to, const struct text *text)
 {
@@ -800,16 +851,23 @@ static inline uint32_t shown_switches(const uint8_t *motor)
     return motor[CONTACTS_KNOWN] == 0 ? 0 : active_switches(motor);
 }
 
+/* "HH: the end flags, or 03 while driving"; 02 §3: "HH 01" while held. */
+static inline uint32_t shown_end(const uint8_t *motor)
+{
+    if (!busy(motor))
+        return motor[END_FLAGS];
+    return moving(motor) ? 0x03 : 0x01;
+}
+
 /* "STSx?: R or L; x; P, N or S; one hex digit V; two hex digits HH; position." */
 static size_t write_status(uint8_t *to, const uint8_t *table, const uint8_t *motor, uint32_t channel)
 {
-    uint32_t direction = motor[DIRECTION];
-    uint32_t hold_off = direction == STOPPED && motor[SETMT_B] == 0 ? 8 : 0;
+    uint32_t hold_off = !busy(motor) && motor[SETMT_B] == 0 ? 8 : 0;
     to[0] = table[MODE] == REMOTE ? 'R' : 'L';
     to[1] = HEX[channel];
-    to[2] = DIRECTION_LETTERS[direction];
+    to[2] = STATE_LETTERS[motor[STATE]];
     to[3] = HEX[shown_switches(motor) | hold_off];
-    write_hex2(to + 4, direction == STOPPED ? motor[END_FLAGS] : 0x03);
+    write_hex2(to + 4, shown_end(motor));
     return 6 + write_place(to + 6, load_signed(motor + POSITION));
 }
 
@@ -846,6 +904,8 @@ static size_t answer(uint8_t *reply, const uint8_t *table, const uint8_t *motor,
         return write_status(reply, table, motor, order->channel);
     case READ_ALL_REPLY:
         return write_text(reply, &ALL_REPLY_TEXTS[table[ALL_REPLY]]);
+    case READ_PAUSE:
+        return write_text(reply, &PAUSE_TEXTS[table[PAUSE]]);
     case READ_FLAGS:
         return write_hex2(reply, table[ERROR_FLAGS]);
     default:
@@ -860,10 +920,10 @@ static inline int64_t lesser(int64_t one, int64_t other)
     return one < other ? one : other;
 }
 
-/* One tick of a driving motor; its count, CW positive. At most 5,000 pulses are due. */
+/* One tick of a moving motor, whose byte 32 is its direction; its count, CW positive. At most 5,000 pulses are due. */
 static int32_t tick_motor(uint8_t *motor)
 {
-    uint32_t direction = motor[DIRECTION];
+    uint32_t direction = motor[STATE];
     uint32_t sum = load2(motor + FRACTION) + load4(motor + SPEED_IN_FORCE);
     int64_t room_left = room(motor, direction);
     int64_t distance = motor[KIND] == TO_TARGET ? target_distance(motor, direction) : INT64_MAX;
@@ -936,7 +996,7 @@ uint32_t model_reading(uint8_t *table, size_t table_size, uint32_t channel, uint
     uint8_t *motor = motor_of(table, channel);
     motor[CONTACTS] = (uint8_t)contacts;
     motor[CONTACTS_KNOWN] = 1;
-    if (switch_ahead(motor, motor[DIRECTION]))
+    if (switch_ahead(motor, direction_of(motor)))
         end_drive(motor, LSEND);
     return OK;
 }
@@ -949,7 +1009,7 @@ uint32_t model_tick(uint8_t *table, size_t table_size, uint8_t *pulses, size_t p
         return NOT_SOUND;
     for (uint32_t channel = 0; channel < MOTORS; channel++) {
         uint8_t *motor = motor_of(table, channel);
-        int32_t count = motor[DIRECTION] == STOPPED ? 0 : tick_motor(motor);
+        int32_t count = moving(motor) ? tick_motor(motor) : 0;
         store4(pulses + 4 * channel, (uint32_t)count);
     }
     return OK;

@@ -1,5 +1,5 @@
 /*
- * Document 01 as amended by §1 and §2 of document 02, in plain C: the sixteen-axis pulse controller, written from the
+ * Document 01 as amended by §1 to §3 of document 02, in plain C: the sixteen-axis pulse controller, written from the
  * documents alone. It is there to be compared with the proved library call by call, and to measure the library's speed
  * beside.
  *

@@ -64,29 +64,33 @@ struct measured {
     uint32_t driving;    /* channels that drive when the call is made */
     uint32_t expected;   /* the number that the call must give */
     uint32_t damage;     /* a byte of the table that is not 0 when the call is made, if this is not 0 */
+    bool paused;         /* they were started under pause, and are held */
 };
 
 static const struct measured calls[] = {
-    {"fresh", FRESH, "", 0, 0, 0},
-    {"tick, 0 motors driving", TICK, "", 0, 0, 0},
-    {"tick, 1 motor driving", TICK, "", 1, 0, 0},
-    {"tick, 4 motors driving", TICK, "", 4, 0, 0},
-    {"tick, 16 motors driving", TICK, "", 16, 0, 0},
-    {"PS?0", COMMAND, "PS?0", 0, 0, 0},
-    {"PS?0, 16 motors driving", COMMAND, "PS?0", 16, 0, 0},
-    {"STS0?", COMMAND, "STS0?", 0, 0, 0},
-    {"ABS0+100, accepted", COMMAND, "ABS0+100", 0, 0, 0},
-    {"ABS0100, accepted", COMMAND, "ABS0100", 0, 0, 0},
-    {"ABS0+100, refused as busy", COMMAND, "ABS0+100", 1, 2, 0},
-    {"ABS0+3000000000, refused", COMMAND, "ABS0+3000000000", 0, 3, 0},
-    {"SETLS011110000", COMMAND, "SETLS011110000", 0, 0, 0},
-    {"AESTP, 16 motors driving", COMMAND, "AESTP", 16, 0, 0},
-    {"garbled, ABS0+10z", COMMAND, "ABS0+10z", 0, 1, 0},
-    {"garbled, xyz", COMMAND, "xyz", 0, 1, 0},
-    {"reading", READING, "", 0, 0, 0},
-    {"reading that ends a drive", READING, "", 1, 0, 0},
-    {"table not sound at its head", COMMAND, "PS?0", 0, 6, 3},
-    {"table not sound at its end", COMMAND, "PS?0", 0, 6, 1087},
+    {"fresh", FRESH, "", 0, 0, 0, false},
+    {"tick, 0 motors driving", TICK, "", 0, 0, 0, false},
+    {"tick, 1 motor driving", TICK, "", 1, 0, 0, false},
+    {"tick, 4 motors driving", TICK, "", 4, 0, 0, false},
+    {"tick, 16 motors driving", TICK, "", 16, 0, 0, false},
+    {"tick, 16 motors held", TICK, "", 16, 0, 0, true},
+    {"PS?0", COMMAND, "PS?0", 0, 0, 0, false},
+    {"PS?0, 16 motors driving", COMMAND, "PS?0", 16, 0, 0, false},
+    {"STS0?", COMMAND, "STS0?", 0, 0, 0, false},
+    {"ABS0+100, accepted", COMMAND, "ABS0+100", 0, 0, 0, false},
+    {"ABS0100, accepted", COMMAND, "ABS0100", 0, 0, 0, false},
+    {"ABS0+100, refused as busy", COMMAND, "ABS0+100", 1, 2, 0, false},
+    {"ABS0+3000000000, refused", COMMAND, "ABS0+3000000000", 0, 3, 0, false},
+    {"SETLS011110000", COMMAND, "SETLS011110000", 0, 0, 0, false},
+    {"AESTP, 16 motors driving", COMMAND, "AESTP", 16, 0, 0, false},
+    {"PAUSE ON", COMMAND, "PAUSE ON", 0, 0, 0, false},
+    {"PAUSE OFF, 16 motors held", COMMAND, "PAUSE OFF", 16, 0, 0, true},
+    {"garbled, ABS0+10z", COMMAND, "ABS0+10z", 0, 1, 0, false},
+    {"garbled, xyz", COMMAND, "xyz", 0, 1, 0, false},
+    {"reading", READING, "", 0, 0, 0, false},
+    {"reading that ends a drive", READING, "", 1, 0, 0, false},
+    {"table not sound at its head", COMMAND, "PS?0", 0, 6, 4, false},
+    {"table not sound at its end", COMMAND, "PS?0", 0, 6, 1087, false},
 };
 
 static uint8_t start[URQOLINA_TABLE_SIZE], table[URQOLINA_TABLE_SIZE], reply[URQOLINA_REPLY_SIZE], pulses[URQOLINA_PULSES_SIZE];
@@ -109,6 +113,8 @@ static void prepare(const struct measured *m)
     for (uint32_t c = 0; c < URQOLINA_CHANNELS; c++)
         model_reading(start, sizeof start, c, 0);
     send("REM");
+    if (m->paused)
+        send("PAUSE ON");
     for (uint32_t c = 0; c < m->driving; c++) {
         snprintf(text, sizeof text, c % 2 == 0 ? "ABS%X+5000" : "SCANN%X", c);
         send(text);
@@ -238,14 +244,15 @@ static const char *const lines[] = {
     "SETMT01100",    "PS?0",            "FL?0",     "BL?0",     "SPD?0",    "SPDH?0",     "SPDM?0",     "SPDL?0",
     "SETLS?0",       "SETMT?0",         "STS0?",    "LOC",      "REM",      "ALL_REP EN", "ALL_REP DS", "ALL_REP?",
     "ERRF?",         "ERR?",            "ERRC",     "ERRC3",    "ERRC9",    "",           "ABSBB+5",    "SPDM0800000000000",
-    "ALL_REP EM",    "SETLS011111000",  "PS0+9999999999", "ABS0100", "FL00000000250", "ABS0"};
+    "ALL_REP EM",    "SETLS011111000",  "PS0+9999999999", "ABS0100", "FL00000000250", "ABS0",
+    "PAUSE ON",      "PAUSE OFF",       "PAUSE?",   "PAUSE OF"};
 
-/* The deepest stack of a command over all those lines, with no motor driving and with sixteen, all-reply on. */
+/* The deepest stack of a command over all those lines, with no motor driving, with sixteen, and with sixteen held, all-reply on. */
 static uint32_t deepest(int k)
 {
     uint32_t most = 0;
-    for (size_t n = 0; n < 2 * (sizeof lines / sizeof lines[0]); n++) {
-        struct measured m = {"", COMMAND, lines[n / 2], n % 2 == 0 ? 0 : 16, 0, 0};
+    for (size_t n = 0; n < 3 * (sizeof lines / sizeof lines[0]); n++) {
+        struct measured m = {"", COMMAND, lines[n / 3], n % 3 == 0 ? 0 : 16, 0, 0, n % 3 == 2};
         measured = &m;
         side = &sides[NOTHING];
         uint32_t none = stack();
@@ -279,6 +286,6 @@ int main(void)
         good = good && ratio <= 1.20 && a->stack <= 512;
     }
     uint32_t a = deepest(LIBRARY), b = deepest(MODEL);
-    printf("| the deepest of %zu commands | | | | | | | %u | %u |\n", 2 * (sizeof lines / sizeof lines[0]), a, b);
+    printf("| the deepest of %zu commands | | | | | | | %u | %u |\n", 3 * (sizeof lines / sizeof lines[0]), a, b);
     return good && a <= 512 ? 0 : 1;
 }

@@ -277,7 +277,7 @@ pub fn is_busy(m: Motor) -> bool
 pub fn is_moving(m: Motor) -> bool
     ensures { λ r. ⌜ r ≡ moving m ⌝ }
 {
-    is_busy(m) & !m.drive.held
+    if m.drive.held { false } else { is_busy(m) }
 }
 
 // Whether the drive of a motor whose other fields are sound is sound.

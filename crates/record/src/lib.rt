@@ -2,7 +2,6 @@
 // motor and back. A position, a limit and a target are kept as places (crate digits): the number plus 2,147,483,648. What
 // stands where is said in specs/.
 
-use digits::places::CCW;
 use digits::places::CW;
 use digits::places::ORIGIN;
 use digits::places::place_of;
@@ -16,6 +15,7 @@ use digits::words::short_at;
 ghost use mathlib.Core.Path.{_≡_};
 ghost use mathlib.Core.List.{[], _∷_};
 ghost use Prim.Native.Nat.{_+_, _≤_};
+ghost use lib.Dec.{eqb};
 ghost use lib.ListN.{length};
 ghost use Rattle.digits.specs.Bytes.{put};
 ghost use Rattle.record.specs.Record.{placeAt, limitsOf, speedsOf, wiringOf, setupOf, heldOf, goingOf, driveOf, motorOf};
@@ -153,13 +153,7 @@ fn is_held(n: u8) -> bool
 fn going_of(n: u8) -> u8
     ensures { λ r. ⌜ r ≡ goingOf n ⌝ }
 {
-    if n == 3 {
-        CW
-    } else if n == 4 {
-        CCW
-    } else {
-        n
-    }
+    if is_held(n) { n - 2 } else { n }
 }
 
 // The byte that tells it of a drive.
@@ -209,6 +203,14 @@ pub fn read_motor(b: &[u8]) -> Motor
         ended,
         drive,
     }
+}
+
+// Whether a record holds no drive, moving or held: its byte 32 tells, and nothing else of it is read.
+pub fn is_standing(b: &[u8]) -> bool
+    requires { ⌜ length (now b) ≡ 64 ⌝ }
+    ensures { λ r. ⌜ r ≡ eqb (motorOf (now (b .entry)) .drive .going) 0 ⌝ }
+{
+    byte_at(b, 32) == 0
 }
 
 // Writes the signed number of a place into the four bytes from an offset on.

@@ -14,6 +14,7 @@ use record::Motor;
 use record::Setup;
 use record::Speeds;
 use record::Wiring;
+use record::is_standing;
 use record::no_drive;
 use record::read_motor;
 use record::write_drive;
@@ -46,6 +47,16 @@ pub fn motor_at(t: &[u8], c: u8) -> Motor
     let start = record_start(c);
     let end = start + 64;
     read_motor(&t[start..end])
+}
+
+// Whether a channel has no drive, moving or held.
+pub fn is_standing_at(t: &[u8], c: u8) -> bool
+    requires { ⌜ (length (now t) ≡ tableSize) × (c ≤ 15) ⌝ }
+    ensures { λ r. ⌜ r ≡ eqb (motorAt (now (t .entry)) c .drive .going) 0 ⌝ }
+{
+    let start = record_start(c);
+    let end = start + 64;
+    is_standing(&t[start..end])
 }
 
 // Writes a channel's record anew; every other byte stays as it is.
@@ -106,13 +117,25 @@ fn sound_count(paused: bool, t: &[u8]) -> u8
     judged
 }
 
+// Whether all records are sound. Pause has a loop of its own, so that the machine code asks for it once and not at every record.
+fn sound_records(paused: bool, t: &[u8]) -> bool
+    requires { ⌜ length (now t) ≡ tableSize ⌝ }
+    ensures { λ r. ⌜ r ≡ every (soundUnder paused) (records (now (t .entry))) ⌝ }
+{
+    if paused {
+        sound_count(true, t) == 16
+    } else {
+        sound_count(false, t) == 16
+    }
+}
+
 // Whether bytes are a sound table: bytes of any number and any value are judged.
 pub fn sound_table(t: &[u8]) -> bool
     ensures { λ r. ⌜ r ≡ soundTable (now (t .entry)) ⌝ }
 {
     if t.len() == 1088 {
         if sound_head(t) {
-            sound_count(is_paused(read_head(t)), t) == 16
+            sound_records(is_paused(read_head(t)), t)
         } else {
             false
         }

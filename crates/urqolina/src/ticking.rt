@@ -5,6 +5,7 @@ use digits::words::put_long;
 use motor::is_moving;
 use pulses::tick;
 use record::Motor;
+use table::is_standing_at;
 use table::motor_at;
 use table::put_progress;
 ghost use mathlib.Core.Path.{_≡_};
@@ -37,8 +38,9 @@ fn drive_channel(t: &mut [u8], pulses: &mut [u8], c: u8, m: Motor)
     );
 }
 
-// Ticks one channel. A motor that does not move gets no pulse, and its record is left unwritten: a tick leaves it as it is.
-fn tick_channel(t: &mut [u8], pulses: &mut [u8], c: u8)
+// Ticks a channel, whatever its motor does. One that does not move gets no pulse, and its record is left unwritten: a tick leaves it as
+// it is.
+fn tick_motor(t: &mut [u8], pulses: &mut [u8], c: u8)
     requires { ⌜ (length (now t) ≡ tableSize) × (length (now pulses) ≡ 64) × (c ≤ 15) × (soundRecord (recordAt (now t) c) ≡ true) ⌝ }
     ensures { λ _. ⌜ now (t .exit) ≡ withMotor (now (t .entry)) c (tickMotor (motorAt (now (t .entry)) c) .motor) ⌝ }
     ensures { λ _. ⌜ now (pulses .exit) ≡ put (now (pulses .entry)) (4 * c) (wordBytes 4 (tickCount (motorAt (now (t .entry)) c))) ⌝ }
@@ -48,6 +50,19 @@ fn tick_channel(t: &mut [u8], pulses: &mut [u8], c: u8)
         drive_channel(t, pulses, c, m);
     } else {
         put_long(pulses, 4 * (c as usize), 0);
+    }
+}
+
+// Ticks one channel. Most motors stand, and then nothing more of them is read.
+fn tick_channel(t: &mut [u8], pulses: &mut [u8], c: u8)
+    requires { ⌜ (length (now t) ≡ tableSize) × (length (now pulses) ≡ 64) × (c ≤ 15) × (soundRecord (recordAt (now t) c) ≡ true) ⌝ }
+    ensures { λ _. ⌜ now (t .exit) ≡ withMotor (now (t .entry)) c (tickMotor (motorAt (now (t .entry)) c) .motor) ⌝ }
+    ensures { λ _. ⌜ now (pulses .exit) ≡ put (now (pulses .entry)) (4 * c) (wordBytes 4 (tickCount (motorAt (now (t .entry)) c))) ⌝ }
+{
+    if is_standing_at(t, c) {
+        put_long(pulses, 4 * (c as usize), 0);
+    } else {
+        tick_motor(t, pulses, c);
     }
 }
 
