@@ -2,14 +2,13 @@
 
 use crate::flags::clear_flag;
 use drive::change_speed;
+use drive::end_drive;
 use drive::release;
 use drive::start;
-use drive::stop;
 use line::HeadOrder;
 use line::Order;
 use line::Setting;
 use line::Start;
-use motor::is_busy;
 use orders::settings::course_of;
 use orders::settings::speed_written;
 use orders::settings::with_setting;
@@ -22,6 +21,7 @@ use table::head::with_mode;
 use table::head::with_pause;
 use table::head::with_reply;
 use table::head::write_head;
+use table::is_standing_at;
 use table::motor_at;
 use table::put_drive;
 use table::put_motor;
@@ -53,9 +53,9 @@ fn make_stop(t: &mut [u8], x: u8, flags: u8)
     requires { ⌜ (length (now t) ≡ tableSize) × (x ≤ 15) × (soundRecord (recordAt (now t) x) ≡ true) ⌝ }
     ensures { λ _. ⌜ now (t .exit) ≡ withMotor (now (t .entry)) x (stopped flags (motorAt (now (t .entry)) x)) ⌝ }
 {
-    let m = motor_at(t, x);
-    if is_busy(m) {
-        put_drive(t, x, stop(m, flags));
+    if !is_standing_at(t, x) {
+        let m = motor_at(t, x);
+        put_drive(t, x, end_drive(m, flags));
     }
 }
 

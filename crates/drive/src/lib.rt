@@ -19,11 +19,10 @@ use record::Drive;
 use record::Motor;
 use record::Speeds;
 use record::Wiring;
-use record::no_drive;
 ghost use mathlib.Core.Path.{_≡_};
 ghost use Rattle.record.specs.Record.{withWiring, withDrive};
 ghost use Rattle.drive.specs.Drives.{speedNumbered, courseTo, towards, hindrance, judgeStart, launched, started, released};
-ghost use Rattle.drive.specs.Drives.{endedWith, stopped, judgeSpeedChange, speedChanged, contacted, switchRead};
+ghost use Rattle.drive.specs.Drives.{endedWith, judgeSpeedChange, speedChanged, contacted, switchRead};
 
 // The end flag of a drive that a switch or the end of its room ended.
 pub const LSEND: u8 = 0x20;
@@ -170,14 +169,14 @@ pub fn release(m: Motor) -> Motor
 pub fn end_drive(m: Motor, flags: u8) -> Motor
     ensures { λ r. ⌜ r ≡ endedWith flags m ⌝ }
 {
-    with_drive(m, flags, no_drive())
-}
-
-// The motor after a stop with its flag; a stopped motor stays as it is.
-pub fn stop(m: Motor, flags: u8) -> Motor
-    ensures { λ r. ⌜ r ≡ stopped flags m ⌝ }
-{
-    if is_busy(m) { end_drive(m, flags) } else { m }
+    let mut d = m.drive;
+    d.going = 0;
+    d.held = false;
+    d.kind = 0;
+    d.fraction = 0;
+    d.speed = 0;
+    d.target = ORIGIN;
+    with_drive(m, flags, d)
 }
 
 // How a change of the speed in force is judged.

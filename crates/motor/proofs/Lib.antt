@@ -4,7 +4,6 @@ pub mod MovingLaws
 pub mod StandingLaws
 pub mod BitLaws
 pub mod SmallLaws
-pub mod PlaceLaws
 pub mod RoomLaws
 pub mod RecordLaws
 pub mod Cases

@@ -10,6 +10,7 @@ use digits::places::ORIGIN;
 use digits::places::is_position;
 use digits::places::pulses_ahead;
 use digits::smaller;
+use digits::words::byte_at;
 use digits::words::long_at;
 use digits::words::wide_at;
 use record::Drive;
@@ -31,7 +32,7 @@ ghost use Rattle.record.specs.Record.{motorOf, restZero};
 ghost use Rattle.motor.specs.Switches.{switchOf, unread, active, blocked, edge, room};
 ghost use Rattle.motor.specs.Sound.{isSpeed, limitsInRange, wiringInRange, contactsRight, setupInRange, settingsInRange};
 ghost use Rattle.motor.specs.Sound.{endFlagsInRange, driveInRange, atRest, underWay};
-ghost use Rattle.motor.specs.Sound.{busy, moving, soundMotor, heldRight, soundUnder};
+ghost use Rattle.motor.specs.Sound.{busy, moving, driveSound, soundMotor, heldRight, soundUnder};
 
 // The switch that a direction runs into, by its bit: 0 CW, 1 CCW.
 fn switch_of(going: u8) -> u8
@@ -89,12 +90,19 @@ pub fn is_speed(v: u32) -> bool
     (1 <= v) & (v <= 5000000)
 }
 
-// Whether the position and the digital limits are positions: every number of the table but one is, the lowest of all, so the
-// least of the three tells.
+// Whether the position and the digital limits are positions.
 fn places_in_range(m: Motor) -> bool
     ensures { λ r. ⌜ r ≡ (isPosition (m .place) && limitsInRange (m .limits)) ⌝ }
 {
-    LOWEST <= smaller(m.place, smaller(m.limits.cw, m.limits.ccw))
+    if is_position(m.place) {
+        if is_position(m.limits.cw) {
+            is_position(m.limits.ccw)
+        } else {
+            false
+        }
+    } else {
+        false
+    }
 }
 
 // Whether HSPD, MSPD and LSPD are speeds.
@@ -282,7 +290,7 @@ pub fn is_moving(m: Motor) -> bool
 
 // Whether the drive of a motor whose other fields are sound is sound.
 fn drive_sound(m: Motor) -> bool
-    ensures { λ r. ⌜ r ≡ (driveInRange (m .drive) && cond (busy m) (underWay m) (atRest (m .drive))) ⌝ }
+    ensures { λ r. ⌜ r ≡ driveSound m ⌝ }
 {
     let drive = m.drive;
     if drive_in_range(drive) {
@@ -300,15 +308,27 @@ fn drive_sound(m: Motor) -> bool
 fn held_right(paused: bool, m: Motor) -> bool
     ensures { λ r. ⌜ r ≡ heldRight paused m ⌝ }
 {
-    paused | !m.drive.held
+    if m.drive.held { paused } else { true }
 }
 
 // Whether the drive is sound in a table, where what is held is held under pause.
-fn drive_allowed(paused: bool, m: Motor) -> bool
-    ensures { λ r. ⌜ r ≡ (driveInRange (m .drive) && cond (busy m) (underWay m) (atRest (m .drive)) && heldRight paused m) ⌝ }
+fn drive_right(paused: bool, m: Motor) -> bool
+    ensures { λ r. ⌜ r ≡ (driveSound m && heldRight paused m) ⌝ }
 {
     if held_right(paused, m) {
         drive_sound(m)
+    } else {
+        false
+    }
+}
+
+// So of the drive of a record. That byte 32 tells a direction at all is asked first, so that what it tells is cheap to find out.
+fn drive_allowed(paused: bool, b: &[u8]) -> bool
+    requires { ⌜ length (now b) ≡ 64 ⌝ }
+    ensures { λ r. ⌜ r ≡ (driveSound (motorOf (now (b .entry))) && heldRight paused (motorOf (now (b .entry)))) ⌝ }
+{
+    if byte_at(b, 32) <= 4 {
+        drive_right(paused, read_motor(b))
     } else {
         false
     }
@@ -350,7 +370,7 @@ fn motor_sound(paused: bool, b: &[u8]) -> bool
     if drive_zero(b) {
         settings_sound(b)
     } else if settings_sound(b) {
-        drive_allowed(paused, read_motor(b))
+        drive_allowed(paused, b)
     } else {
         false
     }

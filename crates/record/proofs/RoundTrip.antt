@@ -2,7 +2,7 @@
 -- Assumes nothing.
 use mathlib.Core.Path.{_≡_, refl, sym, ap, _∙_}
 use mathlib.Core.List.{List, [], _∷_, _++_}
-use mathlib.Core.Bool.{Bool, true, false, cond, false≢true}
+use mathlib.Core.Bool.{Bool, true, false, _||_, cond, false≢true}
 use Prim.Native.Nat.{ℕ, _+_, _≤_, _<_}
 use native.Mathlib.Omega.{arith}
 use lib.ListN.{length, getD, replicate}
@@ -31,6 +31,15 @@ pub record FitsRecord (m : Motor) : Type 0 where
   pub fraction : m .drive .fraction < 65536
   pub speed : m .drive .speed < 4294967296
   pub target : m .drive .target < 4294967296
+
+-- A byte 32 that tells no held drive is the direction.
+pub free-way : (n : ℕ) → heldOf n ≡ false → n ≡ goingOf n
+free-way n = go (eqb n 3) (eqb n 4)
+  where
+    go : (a b : Bool) → (a || b) ≡ false → n ≡ cond a cw (cond b ccw n)
+    go true b e = absurd (false≢true (sym e))
+    go false true e = absurd (false≢true (sym e))
+    go false false e = refl
 
 -- what byte 32 tells of a drive is its direction and whether it is held, as it is of a drive that has a direction where it is held
 pub record FitsWay (d : Drive) : Type 0 where

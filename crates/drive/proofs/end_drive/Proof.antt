@@ -3,14 +3,11 @@ use borrow.Author.Needs.{needs}
 use Rattle.drive.proofs.end_drive.Statement.{statement}
 use Rattle.drive.proofs.end_drive.Tie as tie
 
-no-drive-requires : tie.Need-no-drive-requires
-no-drive-requires c κs = search needs
-
 with-drive-requires : tie.Need-with-drive-requires
 with-drive-requires c κs = search needs
 
 returns : tie.Need-returns
-returns c = rw (c .with-drive .ensures, c .before .no-drive .ensures)
+returns c = rw (c .with-drive .ensures)
 
 pub end-drive-spec : {M : Type 1} → statement M
-end-drive-spec = tie.close (tie.spec no-drive-requires with-drive-requires returns)
+end-drive-spec = tie.close (tie.spec with-drive-requires returns)

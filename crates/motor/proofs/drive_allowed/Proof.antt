@@ -1,25 +1,38 @@
 -- `motor::drive_allowed` meets its contract. Assumes nothing.
-use mathlib.Core.Path.{sym}
-use mathlib.Core.Bool.{_&&_, cond}
-use Rattle.motor.specs.Sound.{driveInRange, underWay, atRest, busy}
-use Rattle.motor.proofs.SoundLaws.{and-true, and-false}
+use mathlib.Core.Path.{_≡_, sym}
+use mathlib.Core.List.{List}
+use mathlib.Core.Bool.{Bool, false, _&&_}
+use Prim.Native.Nat.{ℕ, _<_}
+use native.Mathlib.Omega.{arith}
 use borrow.Author.Needs.{needs}
+use borrow.Author.Tests.{ne-eqb, lt-leb}
+use Rattle.record.specs.Record.{byteAt, motorOf}
+use Rattle.motor.specs.Sound.{driveInRange, driveSound}
 use Rattle.motor.proofs.drive_allowed.Statement.{statement}
 use Rattle.motor.proofs.drive_allowed.Tie as tie
 
-held-right-requires : tie.Need-held-right-requires
-held-right-requires c κs = search needs
+-- Past 4 byte 32 tells no direction.
+no-way : (b : List ℕ) (x : Bool) → 4 < byteAt b 32 → (driveSound (motorOf b) && x) ≡ false
+unfolding motorOf driveInRange
+no-way b x h =
+    rw (ne-eqb (byteAt b 32) 3 (omega arith), ne-eqb (byteAt b 32) 4 (omega arith), lt-leb (byteAt b 32) 2 (omega arith))
 
-drive-sound-requires : tie.Need-drive-sound-requires
-drive-sound-requires c κs = search needs
+byte-at-requires : tie.Need-byte-at-requires
+byte-at-requires c κs = search needs
+
+read-motor-requires : tie.Need-read-motor-requires
+read-motor-requires c κs = search needs
+
+drive-right-requires : tie.Need-drive-right-requires
+drive-right-requires c κs = search needs
 
 returns : tie.Need-returns
-returns c = rw (c .drive-sound .ensures, ← c .before .before .held-right .ensures, c .before .if1 .taken) (sym (and-true _))
+returns c = rw (c .drive-right .ensures, c .before .read-motor .ensures)
 
 returns-2 : tie.Need-returns-2
-returns-2 c =
-    let m = c .before .before .args .m in
-    rw (← c .before .held-right .ensures, c .if1 .left) (sym (and-false (driveInRange (m .drive) && cond (busy m) (underWay m) (atRest (m .drive)))))
+returns-2 c = sym (no-way (c .before .before .before .args .b .now) _ (omega (arith, c .before .byte-at .ensures, c .if1 .left)))
 
 pub drive-allowed-spec : {M : Type 1} → statement M
-drive-allowed-spec = tie.close (tie.spec held-right-requires drive-sound-requires returns returns-2)
+drive-allowed-spec =
+    tie.close
+    (tie.spec byte-at-requires read-motor-requires drive-right-requires returns returns-2)

@@ -15,9 +15,6 @@ settings-sound-requires c κs = search needs
 settings-sound-requires-2 : tie.Need-settings-sound-requires-2
 settings-sound-requires-2 c κs = search needs
 
-read-motor-requires : tie.Need-read-motor-requires
-read-motor-requires c κs = search needs
-
 drive-allowed-requires : tie.Need-drive-allowed-requires
 drive-allowed-requires c κs = search needs
 
@@ -27,7 +24,7 @@ returns c =
 
 returns-2 : tie.Need-returns-2
 unfolding soundMotor inRange
-returns-2 c = rw (c .drive-allowed .ensures, c .before .read-motor .ensures, ← c .before .before .before .settings-sound2 .ensures, c .before .before .if2 .taken)
+returns-2 c = rw (c .drive-allowed .ensures, ← c .before .before .settings-sound2 .ensures, c .before .if2 .taken)
 
 returns-3 : tie.Need-returns-3
 unfolding soundMotor inRange
@@ -40,7 +37,6 @@ motor-sound-spec =
     drive-zero-requires
     settings-sound-requires
     settings-sound-requires-2
-    read-motor-requires
     drive-allowed-requires
     returns
     returns-2

@@ -8,10 +8,11 @@ use borrow.Author.Tests.{eqb-true}
 use borrow.Author.Needs.{needs}
 use Rattle.digits.specs.Places.{cw, ccw}
 use Rattle.record.specs.Record.{goingOf, heldOf}
+use Rattle.record.proofs.RoundTrip.{free-way}
 use Rattle.record.proofs.going_of.Statement.{statement}
 use Rattle.record.proofs.going_of.Tie as tie
 
--- What is held is 3 or 4, and lies two above its direction; what is not is its direction.
+-- What is held is 3 or 4, and lies two above its direction.
 held-way : (n : ℕ) → heldOf n ≡ true → (2 ≤ n) × (n - 2 ≡ goingOf n)
 held-way n = go (eqb n 3) refl (eqb n 4) refl
   where
@@ -19,14 +20,6 @@ held-way n = go (eqb n 3) refl (eqb n 4) refl
     go true a b f e = let is = eqb-true n 3 a in omega arith
     go false a true b e = let is = eqb-true n 4 b in omega arith
     go false a false b e = absurd (false≢true e)
-
-free-way : (n : ℕ) → heldOf n ≡ false → n ≡ goingOf n
-free-way n = go (eqb n 3) (eqb n 4)
-  where
-    go : (a b : Bool) → (a || b) ≡ false → n ≡ cond a cw (cond b ccw n)
-    go true b e = absurd (false≢true (sym e))
-    go false true e = absurd (false≢true (sym e))
-    go false false e = refl
 
 is-held-requires : tie.Need-is-held-requires
 is-held-requires c κs = search needs
