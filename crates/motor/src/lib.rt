@@ -20,7 +20,7 @@ use record::Speeds;
 use record::Wiring;
 use record::read_motor;
 ghost use mathlib.Core.Path.{_≡_};
-ghost use mathlib.Core.Bool.{_&&_, not, cond};
+ghost use mathlib.Core.Bool.{_&&_, _||_, not, cond};
 ghost use Prim.Native.Nat.{_≤_};
 ghost use lib.Dec.{eqb, leb};
 ghost use lib.Bits.{bitAnd};
@@ -304,31 +304,26 @@ fn drive_sound(m: Motor) -> bool
     }
 }
 
-// Whether a motor is not held, or may be, since pause is on.
-fn held_right(paused: bool, m: Motor) -> bool
-    ensures { λ r. ⌜ r ≡ heldRight paused m ⌝ }
+// Whether byte 32 is one that a sound table may hold: 3 and 4, held drives, under pause alone.
+fn way_right(paused: bool, n: u8) -> bool
+    ensures { λ r. ⌜ r ≡ (leb n 2 || (paused && leb n 4)) ⌝ }
 {
-    if m.drive.held { paused } else { true }
-}
-
-// Whether the drive is sound in a table, where what is held is held under pause.
-fn drive_right(paused: bool, m: Motor) -> bool
-    ensures { λ r. ⌜ r ≡ (driveSound m && heldRight paused m) ⌝ }
-{
-    if held_right(paused, m) {
-        drive_sound(m)
+    if n <= 2 {
+        true
+    } else if paused {
+        n <= 4
     } else {
         false
     }
 }
 
-// So of the drive of a record. That byte 32 tells a direction at all is asked first, so that what it tells is cheap to find out.
+// Whether the drive of a record is sound in a table, where what is held is held under pause.
 fn drive_allowed(paused: bool, b: &[u8]) -> bool
     requires { ⌜ length (now b) ≡ 64 ⌝ }
     ensures { λ r. ⌜ r ≡ (driveSound (motorOf (now (b .entry))) && heldRight paused (motorOf (now (b .entry)))) ⌝ }
 {
-    if byte_at(b, 32) <= 4 {
-        drive_right(paused, read_motor(b))
+    if way_right(paused, byte_at(b, 32)) {
+        drive_sound(read_motor(b))
     } else {
         false
     }
