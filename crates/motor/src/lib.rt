@@ -364,8 +364,8 @@ fn motor_sound(paused: bool, b: &[u8]) -> bool
 {
     if drive_zero(b) {
         settings_sound(b)
-    } else if settings_sound(b) {
-        drive_allowed(paused, b)
+    } else if drive_allowed(paused, b) {
+        settings_sound(b)
     } else {
         false
     }
