@@ -13,6 +13,7 @@ use motor::is_moving;
 use motor::room_of;
 use record::Motor;
 ghost use mathlib.Core.Path.{_≡_};
+ghost use mathlib.Core.Bool.{false};
 ghost use Prim.Native.Nat.{_+_, _^_, _<_};
 ghost use Rattle.record.specs.Record.{withPlace};
 ghost use Rattle.pulses.specs.Ticks.{tickSpeed, due, rest, distanceLeft, allowed, given, reached, usedUp, advanced};
@@ -54,11 +55,12 @@ fn due_pulses(m: Motor) -> u32
     (thousandths(m) / 1000) as u32
 }
 
-// What is carried to the next tick.
-fn new_fraction(m: Motor) -> u16
+// What is carried to the next tick by a drive that goes on, and so was given the n pulses that were due.
+fn new_fraction(n: u32, m: Motor) -> u16
+    requires { ⌜ (n ≡ given m) × (reached m ≡ false) × (usedUp m ≡ false) ⌝ }
     ensures { λ r. ⌜ r ≡ rest m ⌝ }
 {
-    (thousandths(m) % 1000) as u16
+    (thousandths(m) - 1000 * (n as u64)) as u16
 }
 
 // How far the target lies ahead. This and what follows are given the direction of the drive beside the motor, so that `tick` can
@@ -115,11 +117,11 @@ fn advance(going: u8, n: u32, m: Motor) -> Motor
 
 // The motor moved, with its drive going on and the new fraction carried.
 fn go_on(going: u8, n: u32, m: Motor) -> Motor
-    requires { ⌜ (going ≡ m .drive .going) × (n ≡ given m) ⌝ }
+    requires { ⌜ (going ≡ m .drive .going) × (n ≡ given m) × (reached m ≡ false) × (usedUp m ≡ false) ⌝ }
     ensures { λ r. ⌜ r ≡ goesOn m ⌝ }
 {
     let mut d = m.drive;
-    d.fraction = new_fraction(m);
+    d.fraction = new_fraction(n, m);
     with_drive(advance(going, n, m), m.ended, d)
 }
 

@@ -1,4 +1,5 @@
 -- `pulses::drive_on` meets its contract. Assumes nothing.
+use mathlib.Core.Path.{sym, _∙_}
 use Rattle.pulses.specs.Ticks.{drivenOn}
 use borrow.Author.Needs.{needs}
 use Rattle.pulses.proofs.drive_on.Statement.{statement}
@@ -31,7 +32,9 @@ unfolding drivenOn
 returns-2 c = rw (← c .before .before .before .before .before .is-reached .ensures, c .before .before .before .before .if1 .left, ← c .before .before .before .is-used-up .ensures, c .before .before .if2 .taken, c .end-drive2 .ensures, c .before .advance2 .ensures)
 
 go-on-requires : tie.Need-go-on-requires
-go-on-requires c κs = search needs
+go-on-requires c κs =
+    let a = c .before .before .before .before in
+    (a .pre .0, a .pre .1, sym (c .before .before .before .is-reached .ensures) ∙ c .before .before .if1 .left, sym (c .before .is-used-up .ensures) ∙ c .if2 .left)
 
 returns-3 : tie.Need-returns-3
 unfolding drivenOn
