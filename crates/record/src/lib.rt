@@ -13,12 +13,13 @@ use digits::words::put_long;
 use digits::words::put_short;
 use digits::words::short_at;
 ghost use mathlib.Core.Path.{_≡_};
+ghost use mathlib.Core.Bool.{_||_};
 ghost use mathlib.Core.List.{[], _∷_};
 ghost use Prim.Native.Nat.{_+_, _≤_};
 ghost use lib.Dec.{eqb};
 ghost use lib.ListN.{length};
 ghost use Rattle.digits.specs.Bytes.{put};
-ghost use Rattle.record.specs.Record.{placeAt, limitsOf, speedsOf, wiringOf, setupOf, heldOf, goingOf, driveOf, motorOf};
+ghost use Rattle.record.specs.Record.{byteAt, placeAt, limitsOf, speedsOf, wiringOf, setupOf, heldOf, goingOf, driveOf, motorOf};
 ghost use Rattle.record.specs.Record.{placeBytes, limitBytes, speedBytes, wiringBytes, setupBytes, settingBytes};
 ghost use Rattle.record.specs.Record.{goingByte, driveBytes, restBytes, recordOf, standing};
 ghost use Rattle.record.specs.Progress.{flagsAndDrive, progressed};
@@ -211,6 +212,15 @@ pub fn is_standing(b: &[u8]) -> bool
     ensures { λ r. ⌜ r ≡ eqb (motorOf (now (b .entry)) .drive .going) 0 ⌝ }
 {
     byte_at(b, 32) == 0
+}
+
+// Whether a record holds a drive that goes, CW or CCW, by its byte 32.
+pub fn is_going(b: &[u8]) -> bool
+    requires { ⌜ length (now b) ≡ 64 ⌝ }
+    ensures { λ r. ⌜ r ≡ (eqb (byteAt (now (b .entry)) 32) 1 || eqb (byteAt (now (b .entry)) 32) 2) ⌝ }
+{
+    let way = byte_at(b, 32);
+    (way == 1) | (way == 2)
 }
 
 // Writes the signed number of a place into the four bytes from an offset on.

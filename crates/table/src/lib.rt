@@ -14,6 +14,7 @@ use record::Motor;
 use record::Setup;
 use record::Speeds;
 use record::Wiring;
+use record::is_going;
 use record::is_standing;
 use record::no_drive;
 use record::read_motor;
@@ -21,13 +22,14 @@ use record::write_drive;
 use record::write_motor;
 use record::write_progress;
 ghost use mathlib.Core.Path.{_≡_};
+ghost use mathlib.Core.Bool.{true};
 ghost use Prim.Native.Nat.{_≤_};
 ghost use lib.Dec.{eqb};
 ghost use lib.ListN.{length};
 ghost use Rattle.digits.specs.Bytes.{put, every, gather};
 ghost use Rattle.record.specs.Record.{recordOf, freshMotor};
 ghost use Rattle.record.specs.Progress.{flagsAndDrive, progressed};
-ghost use Rattle.motor.specs.Sound.{soundUnder};
+ghost use Rattle.motor.specs.Sound.{moving, soundRecord, soundUnder};
 ghost use Rattle.table.specs.Layout.{tableSize, recordStart, recordAt, records, motorAt, withMotor, freshTable};
 ghost use Rattle.table.specs.Sound.{soundTable};
 
@@ -57,6 +59,16 @@ pub fn is_standing_at(t: &[u8], c: u8) -> bool
     let start = record_start(c);
     let end = start + 64;
     is_standing(&t[start..end])
+}
+
+// Whether the motor of a channel with a sound record moves.
+pub fn is_moving_at(t: &[u8], c: u8) -> bool
+    requires { ⌜ (length (now t) ≡ tableSize) × (c ≤ 15) × (soundRecord (recordAt (now t) c) ≡ true) ⌝ }
+    ensures { λ r. ⌜ r ≡ moving (motorAt (now (t .entry)) c) ⌝ }
+{
+    let start = record_start(c);
+    let end = start + 64;
+    is_going(&t[start..end])
 }
 
 // Writes a channel's record anew; every other byte stays as it is.

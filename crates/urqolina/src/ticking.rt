@@ -2,10 +2,9 @@
 
 use digits::places::count_of;
 use digits::words::put_long;
-use motor::is_moving;
 use pulses::tick;
 use record::Motor;
-use table::is_standing_at;
+use table::is_moving_at;
 use table::motor_at;
 use table::put_progress;
 ghost use mathlib.Core.Path.{_≡_};
@@ -38,31 +37,17 @@ fn drive_channel(t: &mut [u8], pulses: &mut [u8], c: u8, m: Motor)
     );
 }
 
-// Ticks a channel, whatever its motor does. One that does not move gets no pulse, and its record is left unwritten: a tick leaves it as
-// it is.
-fn tick_motor(t: &mut [u8], pulses: &mut [u8], c: u8)
-    requires { ⌜ (length (now t) ≡ tableSize) × (length (now pulses) ≡ 64) × (c ≤ 15) × (soundRecord (recordAt (now t) c) ≡ true) ⌝ }
-    ensures { λ _. ⌜ now (t .exit) ≡ withMotor (now (t .entry)) c (tickMotor (motorAt (now (t .entry)) c) .motor) ⌝ }
-    ensures { λ _. ⌜ now (pulses .exit) ≡ put (now (pulses .entry)) (4 * c) (wordBytes 4 (tickCount (motorAt (now (t .entry)) c))) ⌝ }
-{
-    let m = motor_at(t, c);
-    if is_moving(m) {
-        drive_channel(t, pulses, c, m);
-    } else {
-        put_long(pulses, 4 * (c as usize), 0);
-    }
-}
-
-// Ticks one channel. Most motors stand, and then nothing more of them is read.
+// Ticks one channel. A motor that does not move gets no pulse, and its record is left unwritten: a tick leaves it as it is.
 fn tick_channel(t: &mut [u8], pulses: &mut [u8], c: u8)
     requires { ⌜ (length (now t) ≡ tableSize) × (length (now pulses) ≡ 64) × (c ≤ 15) × (soundRecord (recordAt (now t) c) ≡ true) ⌝ }
     ensures { λ _. ⌜ now (t .exit) ≡ withMotor (now (t .entry)) c (tickMotor (motorAt (now (t .entry)) c) .motor) ⌝ }
     ensures { λ _. ⌜ now (pulses .exit) ≡ put (now (pulses .entry)) (4 * c) (wordBytes 4 (tickCount (motorAt (now (t .entry)) c))) ⌝ }
 {
-    if is_standing_at(t, c) {
-        put_long(pulses, 4 * (c as usize), 0);
+    if is_moving_at(t, c) {
+        let m = motor_at(t, c);
+        drive_channel(t, pulses, c, m);
     } else {
-        tick_motor(t, pulses, c);
+        put_long(pulses, 4 * (c as usize), 0);
     }
 }
 
