@@ -308,13 +308,7 @@ fn drive_sound(m: Motor) -> bool
 fn way_right(paused: bool, n: u8) -> bool
     ensures { λ r. ⌜ r ≡ (leb n 2 || (paused && leb n 4)) ⌝ }
 {
-    if n <= 2 {
-        true
-    } else if paused {
-        n <= 4
-    } else {
-        false
-    }
+    (n as u32) <= choose(paused, 4, 2)
 }
 
 // Whether the drive of a record is sound in a table, where what is held is held under pause.
