@@ -77,6 +77,14 @@ int main(void)
     send("STSB?");
     send("ABS0+3 ");   /* a byte too many: no form */
     send("ERR?");
+    send("PAUSE ON");   /* the syringe and the rack are to leave on the same tick: their starts are held */
+    send("REL1+2");
+    send("REL2-2");
+    send("STS1?");
+    tick(++now);
+    send("PAUSE OFF");
+    while (now < 9)
+        tick(++now);
 
     table[3] = 1;   /* a damaged table is found out, and nothing is done on it */
     send("PS?0");

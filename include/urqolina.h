@@ -45,13 +45,26 @@ extern "C" {
  *   version 1: document 01
  *   version 2: where a line takes a signed number, one without a sign means plus: ABS0100 is ABS0+100
  *   version 3: a start on a channel whose switches were not read since fresh is 4; its status shows no switch as active
+ *   version 4: PAUSE ON, PAUSE OFF and PAUSE?, and drives that are held between them
  *   layout 1: a head of 64 bytes and sixteen records of 64, as document 01 has them
  *   layout 2: byte 44 of a record is 0 while its contacts are unknown, and byte 26 then is 0 too, or 1 once they are
  *             read. Of the tables of layout 1, one with a closed contact or a driving motor is answered 6, and the
  *             others are taken as unread
+ *   layout 3: byte 3 of the head is 1 while pause is on, and byte 32 of a record is 3 (CW) or 4 (CCW) while its drive is
+ *             held. Every table of layout 2 means the same in this one
  */
-#define URQOLINA_VERSION 3
-#define URQOLINA_LAYOUT 2
+#define URQOLINA_VERSION 4
+#define URQOLINA_LAYOUT 3
+
+/*
+ * Motors that leave together. After PAUSE ON an accepted start is held: the channel is busy, and no tick moves it or counts
+ * for it. PAUSE OFF releases every held drive, and the next tick is the first of each of them. What runs when PAUSE ON comes
+ * runs on.
+ *   REM, PAUSE ON, REL0+4, REL1-4, PAUSE OFF
+ * A held channel has the status S with HH 01 (STS0? is R0S001+0000000), is answered 2 to starts and settings, takes SPC for
+ * its coming speed, and ends by a stop or by the switch of its direction as a driving one does. Pause and held drives last
+ * through LOC, where PAUSE OFF is 4: a host that goes to local mode stops what it has held, or comes back to release it.
+ */
 
 /* The sizes of the buffers, in bytes. */
 #define URQOLINA_TABLE_SIZE 1088u  /* the table, exactly */
@@ -65,7 +78,7 @@ extern "C" {
 enum {
     URQOLINA_OK = 0,            /* done */
     URQOLINA_COMMAND_ERROR = 1, /* the line has no form */
-    URQOLINA_BUSY = 2,          /* a start, setting or speed selection of a driving channel */
+    URQOLINA_BUSY = 2,          /* a start, setting or speed selection of a driving or held channel */
     URQOLINA_PARAMETER = 3,     /* the form is right, a value is outside its range */
     URQOLINA_NG = 4,            /* local mode; A = 0; contacts not read yet; an active enabled switch ahead; no room; SPC
                                    on a stopped motor */
@@ -104,8 +117,8 @@ uint32_t urqolina_reading(uint8_t *table, size_t table_size, uint32_t channel, u
 
 /*
  * Takes one tick, a millisecond.
- *   0     every driving channel has moved; the pulse buffer holds a count for each channel, CW positive, 0 for a motor
- *         that stands stopped when the tick comes
+ *   0     every driving channel that is not held has moved; the pulse buffer holds a count for each channel, CW positive,
+ *         0 for a motor that stands stopped or is held when the tick comes
  *   5, 6  no tick: no byte is written, and no pulse is given
  */
 uint32_t urqolina_tick(uint8_t *table, size_t table_size, uint8_t *pulses, size_t pulses_size);

@@ -9,7 +9,7 @@ use Rattle.record.specs.Record.{freshMotor, withLimits, withWiring, withSetup}
 use Rattle.drive.specs.declared.Course.the-variants.{Stay, Beyond, To, Along}
 use Rattle.drive.specs.declared.Verdict.the-variants.{Done, NoForm, Busy, OutOfRange, LocalMode, Disabled, Unread, SwitchAhead, NoRoom, NotDriving, WrongSize, NotSound}
 use Rattle.drive.specs.Numbers.{numberOf, isRefusal, flagBit}
-use Rattle.drive.specs.Drives.{courseTo, judgeStart, wellAimed, started, stopped, contacted, switchRead}
+use Rattle.drive.specs.Drives.{courseTo, judgeStart, wellAimed, started, released, stopped, speedChanged, contacted, switchRead}
 use Rattle.drive.specs.Computing.{computing-drive}
 
 -- a fresh motor whose contacts were read, all open; one with the SETLS byte and the contacts given, read or not; and one with the CW
@@ -46,6 +46,20 @@ known-from-then :
     × (stopped 0x40 (started false known (Along cw)) .wiring .read ≡ 1)
 unfolding computing-drive known
 known-from-then = (refl, refl, refl)
+
+-- 02 §3: a start under pause is held, with all that it would have had; nothing is held where nothing is started. A stop ends it, a
+-- reading does by the switch of its direction alone, SPC sets its coming speed, and a release leaves it as if it had just been started.
+held-starts :
+    (started true known (Along ccw) .drive ≡ record { going = ccw; held = true; kind = 0; fraction = 0; speed = 800; target = origin })
+    × (started true known (To (origin + 3)) .drive ≡ record { going = cw; held = true; kind = 1; fraction = 0; speed = 800; target = origin + 3 })
+    × (started true known Stay ≡ known) × (released (started true known (To 1)) ≡ started false known (To 1)) × (released known ≡ known)
+    × (released (started false known (Along cw)) ≡ started false known (Along cw))
+    × (stopped 0x80 (started true known (Along cw)) ≡ stopped 0x80 (started false known (Along cw)))
+    × (map (λ n. switchRead (started true known (Along cw)) n .drive .held) (0 ∷ 1 ∷ 2 ∷ 4 ∷ 6 ∷ 7 ∷ []) ≡ true ∷ false ∷ true ∷ true ∷ true ∷ false ∷ [])
+    × (map (λ n. switchRead (started true known (Along ccw)) n .ended) (0 ∷ 1 ∷ 2 ∷ 5 ∷ 6 ∷ []) ≡ 0 ∷ 0 ∷ 0x20 ∷ 0 ∷ 0x20 ∷ [])
+    × (released (speedChanged (started true known (Along cw)) 400) .drive .speed ≡ 400)
+unfolding computing-drive known
+held-starts = (refl, refl, refl, refl, refl, refl, refl, refl, refl, refl)
 
 -- the fresh motor with SETMT's A at 0
 disabled : Motor
