@@ -86,7 +86,7 @@ int main(void)
     while (now < 9)
         tick(++now);
 
-    table[3] = 1;   /* a damaged table is found out, and nothing is done on it */
+    table[4] = 1;   /* a damaged table is found out, and nothing is done on it */
     send("PS?0");
     tick(++now);
     return 0;
