@@ -129,25 +129,13 @@ fn sound_count(paused: bool, t: &[u8]) -> u8
     judged
 }
 
-// Whether all records are sound. Pause has a loop of its own, so that the machine code asks for it once and not at every record.
-fn sound_records(paused: bool, t: &[u8]) -> bool
-    requires { ⌜ length (now t) ≡ tableSize ⌝ }
-    ensures { λ r. ⌜ r ≡ every (soundUnder paused) (records (now (t .entry))) ⌝ }
-{
-    if paused {
-        sound_count(true, t) == 16
-    } else {
-        sound_count(false, t) == 16
-    }
-}
-
 // Whether bytes are a sound table: bytes of any number and any value are judged.
 pub fn sound_table(t: &[u8]) -> bool
     ensures { λ r. ⌜ r ≡ soundTable (now (t .entry)) ⌝ }
 {
     if t.len() == 1088 {
         if sound_head(t) {
-            sound_records(is_paused(read_head(t)), t)
+            sound_count(is_paused(read_head(t)), t) == 16
         } else {
             false
         }

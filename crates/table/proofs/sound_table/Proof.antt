@@ -14,12 +14,12 @@ read-head-requires c κs = search needs
 is-paused-requires : tie.Need-is-paused-requires
 is-paused-requires c κs = search needs
 
-sound-records-requires : tie.Need-sound-records-requires
-sound-records-requires c κs = search needs
+sound-count-requires : tie.Need-sound-count-requires
+sound-count-requires c κs = search needs
 
 returns : tie.Need-returns
 unfolding soundTable
-returns c = rw (c .sound-records .ensures, c .before .is-paused .ensures, c .before .before .read-head .ensures, ← c .before .before .before .before .sound-head .ensures, c .before .before .before .if2 .taken, eq-eqb _ _ (c .before .before .before .before .before .if1 .taken))
+returns c = rw (c .sound-count .ensures, c .before .is-paused .ensures, c .before .before .read-head .ensures, ← c .before .before .before .before .sound-head .ensures, c .before .before .before .if2 .taken, eq-eqb _ _ (c .before .before .before .before .before .if1 .taken))
 
 returns-2 : tie.Need-returns-2
 unfolding soundTable
@@ -31,4 +31,4 @@ returns-3 c = simp (ne-eqb _ _ (c .if1 .left))
 
 pub sound-table-spec : {M : Type 1} → statement M
 sound-table-spec =
-    tie.close (tie.spec sound-head-requires read-head-requires is-paused-requires sound-records-requires returns returns-2 returns-3)
+    tie.close (tie.spec sound-head-requires read-head-requires is-paused-requires sound-count-requires returns returns-2 returns-3)
