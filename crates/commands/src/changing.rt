@@ -12,7 +12,6 @@ use line::Start;
 use orders::settings::course_of;
 use orders::settings::speed_written;
 use orders::settings::with_setting;
-use record::Motor;
 use table::head::Head;
 use table::head::is_paused;
 use table::head::read_head;

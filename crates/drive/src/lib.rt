@@ -18,9 +18,8 @@ use motor::room_of;
 use record::Drive;
 use record::Motor;
 use record::Speeds;
-use record::Wiring;
 ghost use mathlib.Core.Path.{_≡_};
-ghost use Rattle.record.specs.Record.{withWiring, withDrive};
+ghost use Rattle.record.specs.Record.{withDrive};
 ghost use Rattle.drive.specs.Drives.{speedNumbered, courseTo, towards, hindrance, judgeStart, launched, started, released};
 ghost use Rattle.drive.specs.Drives.{endedWith, judgeSpeedChange, speedChanged, contacted, switchRead};
 
@@ -165,7 +164,8 @@ pub fn release(m: Motor) -> Motor
     }
 }
 
-// The motor with its drive ended: the flags say how, and nothing of the drive is left.
+// The motor with its drive ended: the flags say how, and nothing of the drive is left. It is cleared field by field, because for a
+// new drive in the place of the old one the compiler keeps both in memory.
 pub fn end_drive(m: Motor, flags: u8) -> Motor
     ensures { λ r. ⌜ r ≡ endedWith flags m ⌝ }
 {

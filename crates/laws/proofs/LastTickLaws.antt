@@ -2,7 +2,7 @@
 -- tick D·1000/v rounded up", counted from its release, over sequences, with any other calls in between. Assumes nothing.
 use mathlib.Core.Path.{_≡_, refl, sym, ap, _∙_}
 use mathlib.Core.List.{List, [], _∷_}
-use mathlib.Core.Bool.{Bool, true, false, _&&_, not, cond, false≢true, and-true}
+use mathlib.Core.Bool.{Bool, true, false, _&&_, not, cond, false≢true}
 use Prim.Native.Nat.{ℕ, zero, suc, _+_, _*_, _≤_, _<_}
 use native.Mathlib.Nat.{zero-add, add-zero}
 use native.Mathlib.Numerals.{add-one}
@@ -10,7 +10,6 @@ use native.Mathlib.Omega.{arith}
 use lib.ListN.{length}
 use lib.Dec.{eqb}
 use borrow.Author.Tests.{eq-eqb, not-true}
-use Rattle.digits.specs.Places.{ahead}
 use Rattle.record.specs.declared.Motor.{Motor}
 use Rattle.record.specs.Record.{withDrive, letGo}
 use Rattle.motor.specs.Switches.{edge, room}
@@ -32,7 +31,7 @@ use Rattle.table.proofs.TableLaws.{sound-motor-at}
 use Rattle.laws.specs.Sequences.{urqolina, Call, tick, after, run, Beginning, ran, never}
 use Rattle.laws.specs.Deeds as D
 use Rattle.laws.specs.Deeds.{Deed, deed, isTick}
-use Rattle.laws.specs.Ledger.{Account, takesTicks, courseIn, entered, account, oneMore, ticksIn}
+use Rattle.laws.specs.Ledger.{Account, courseIn, entered, oneMore, ticksIn}
 use Rattle.laws.specs.Pulses.{disturbs, accountNow, lastTick, Undisturbed, accountLater, ticksLater, LastTick}
 use Rattle.laws.proofs.DeedLaws.{performed, pausedIn, performed-free, Fits, fits-start, fits-set}
 use Rattle.laws.proofs.Following.{next}

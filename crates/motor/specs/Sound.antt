@@ -86,7 +86,7 @@ busy m = not (eqb (m .drive .going) 0)
 unfoldable pub moving : Motor → Bool
 moving m = busy m && not (m .drive .held)
 
--- what of a sound motor lies in its drive, for the code, which judges it last; nobody need believe it
+-- what soundness asks of the drive, for the code, which judges it apart from the settings; nobody need believe it
 abbrev pub driveSound : Motor → Bool
 driveSound m = driveInRange (m .drive) && cond (busy m) (underWay m) (atRest (m .drive))
 

@@ -19,7 +19,7 @@ use Rattle.table.specs.Layout.{tableSize, headOf, paused, recordStart, r
 use Rattle.table.specs.Sound.{soundTable}
 use Rattle.table.specs.Computing.{computing-table}
 use Rattle.table.proofs.PieceLaws.{put-back, part-same, part-before, part-after}
-use Rattle.table.proofs.TableLaws.{motor-length, upTo, up-to-none, up-to-motor, up-to-next, up-to-all, sound-length, sound-record-at, sound-motor-at, sound-held-at, sound-head-of, sound-from}
+use Rattle.table.proofs.TableLaws.{motor-length, upTo, up-to-none, up-to-next, up-to-all, sound-length, sound-record-at, sound-motor-at, sound-held-at, sound-head-of, sound-from}
 use Rattle.table.proofs.HeadLaws.{same-head, same-sound}
 
 -- A record that is written is read back, and leaves the head and the other records.

@@ -1,7 +1,6 @@
 -- `motor::sound_bytes` meets its contract. Assumes nothing.
 use borrow.Author.Tests.{eq-eqb}
 use Rattle.motor.specs.Sound.{soundMotor, soundRecord, soundUnder}
-use mathlib.Core.Path.{sym}
 use mathlib.Core.Bool.{_&&_}
 use lib.Dec.{eqb}
 use lib.ListN.{length}

@@ -1,11 +1,6 @@
 -- `commands::changing::change_head` meets its contract. Assumes nothing.
-use mathlib.Core.Path.{_≡_}
-use lib.ListN.{length}
 use borrow.Author.Needs.{needs}
-use Rattle.line.specs.declared.HeadOrder.{HeadOrder}
-use Rattle.table.specs.Layout.{tableSize}
 use Rattle.table.proofs.TableLaws.{sound-length}
-use Rattle.commands.specs.Changing.{motorsFreed}
 use Rattle.commands.proofs.HeadOrderLaws.{freed-length}
 use Rattle.commands.proofs.changing.change_head.Statement.{statement}
 use Rattle.commands.proofs.changing.change_head.Tie as tie

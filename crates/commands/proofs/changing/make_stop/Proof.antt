@@ -1,8 +1,7 @@
 -- `commands::changing::make_stop` meets its contract. Assumes nothing.
-use mathlib.Core.Path.{_≡_, sym, _∙_}
+use mathlib.Core.Path.{_≡_, sym}
 use mathlib.Core.Bool.{true, false}
 use borrow.Author.Needs.{needs}
-use borrow.Author.Tests.{not-true, not-false}
 use Rattle.digits.specs.Bytes.{put}
 use Rattle.record.specs.Record.{standing}
 use Rattle.record.specs.Progress.{flagsAndDrive}
