@@ -22,6 +22,15 @@ bench: crate 3 of 3: bench proved (0 s)
 END
 sed 1d "$calls.err" | cmp -s - "$room/said" || fail "without a terminal it has said: $(cat "$calls.err")"
 
+# Another kit than the one that kit.txt names is told, and is no fault.
+rm -r "$tree/target"
+echo 'another kit' >"$room/kit"
+KIT=$room/kit
+must_run 'an unbuilt tree, with another kit'
+KIT=$tree/kit.txt
+grep -qx "bench: the kit here is another kit; this repository was proved with $(cat "$tree/kit.txt")" "$room/err" ||
+    fail "with another kit it has said: $(cat "$room/err")"
+
 # On a terminal, one line is written over and over.
 if command -v script >/dev/null; then
     rm -r "$tree/target"
