@@ -29,9 +29,12 @@ abbrev pub running : ℕ → ℕ → ℕ → ℕ → Account
 running going speed sum pulses =
     record { lasts = true; counting = true; paused = false; going = going; aim = Along going; speed = speed; sum = sum; pulses = pulses }
 
+abbrev pub ended : Account → Account
+ended a =
+    record { lasts = false; counting = a .counting; paused = a .paused; going = a .going; aim = a .aim; speed = a .speed; sum = a .sum; pulses = a .pulses }
+
 abbrev pub over : ℕ → ℕ → ℕ → ℕ → Account
-over going speed sum pulses =
-    record { lasts = false; counting = true; paused = false; going = going; aim = Along going; speed = speed; sum = sum; pulses = pulses }
+over going speed sum pulses = ended (running going speed sum pulses)
 
 -- the same of a drive to a place
 abbrev pub aimedAt : ℕ → Account → Account

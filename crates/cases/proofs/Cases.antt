@@ -10,7 +10,8 @@ use Rattle.digits.specs.Places.{cw, ccw}
 use Rattle.text.specs.Text.{bytes}
 use Rattle.urqolina.specs.Calls.{freshCall, commandCall, readingCall, tickCall}
 use Rattle.urqolina.specs.Computing.{computing-urqolina}
-use Rattle.cases.proofs.Steps.{Step, says, reads, ticks, holds, lent, fresh, after, seen, left, stated}
+use Rattle.laws.specs.Sequences as Q
+use Rattle.cases.proofs.Steps.{Step, says, reads, ticks, holds, lent, fresh, after, seenBy, leftBy, seen, tried, stated, checked, all-checked, tried-checked}
 
 -- Local mode refuses starts, settings, SPC and all-reply before their values are looked at, and a line with no form before
 -- that; reads, stops, LOC, REM and the ERR family are taken. Each number leaves its flag, and ERR? tells the lowest.
@@ -22,9 +23,9 @@ local-mode =
     ∷ says "ALL_REP?" 0 "DS" ∷ says "LOC" 0 "" ∷ says "STSF?" 0 "LFS000+0000000" ∷ says "ERRC" 0 "" ∷ says "ERR?" 0 "NO ERROR" ∷ says "SCANP0" 4 "" ∷ says "" 1 ""
     ∷ says "ERRC3" 0 "" ∷ says "ERRF?" 0 "01" ∷ []
 
-local-mode-checked : seen fresh local-mode ≡ map stated local-mode
-unfolding computing-urqolina local-mode fresh after seen stated
-local-mode-checked = refl
+local-mode-checked : seen local-mode ≡ map stated local-mode
+unfolding computing-urqolina local-mode fresh Q.after after seenBy stated
+local-mode-checked = checked local-mode refl
 
 -- In remote mode the value comes before busy, busy before the target's range, and that before the motor's own causes. ABS to
 -- the present position and REL 0 meet no check after busy; SPC knows no busy and needs a drive.
@@ -37,9 +38,9 @@ refusals =
     ∷ says "JOGPE" 0 "" ∷ says "ESTPE" 0 "" ∷ says "SETMTE0000" 0 "" ∷ says "RELE+100" 3 "" ∷ says "SCANNE" 4 "" ∷ says "ABSE+2147483640" 0 ""
     ∷ says "RELE-0" 0 "" ∷ says "STSE?" 0 "RES880+2147483640" ∷ says "ERRF?" 0 "0E" ∷ says "ERR?" 0 "MCC06 BUSY ERROR" ∷ []
 
-refusals-checked : seen fresh refusals ≡ map stated refusals
-unfolding computing-urqolina refusals fresh after seen stated
-refusals-checked = refl
+refusals-checked : seen refusals ≡ map stated refusals
+unfolding computing-urqolina refusals fresh Q.after after seenBy stated
+refusals-checked = checked refusals refl
 
 -- With all-reply on every line is answered: a read with its own reply, the others and refusals with their text; as it is
 -- after the command.
@@ -49,9 +50,9 @@ all-reply =
     ∷ says "PS0+2147483648" 3 "PARAMETER ERROR" ∷ says "X" 1 "COMMAND ERROR" ∷ says "SPC0800" 4 "NG" ∷ says "ASSTP" 0 "OK" ∷ says "LOC" 0 "OK"
     ∷ says "ALL_REP DS" 4 "NG" ∷ says "REM" 0 "OK" ∷ says "ALL_REP DS" 0 "" ∷ says "X" 1 "" ∷ says "ALL_REP?" 0 "DS" ∷ []
 
-all-reply-checked : seen fresh all-reply ≡ map stated all-reply
-unfolding computing-urqolina all-reply fresh after seen stated
-all-reply-checked = refl
+all-reply-checked : seen all-reply ≡ map stated all-reply
+unfolding computing-urqolina all-reply fresh Q.after after seenBy stated
+all-reply-checked = checked all-reply refl
 
 -- An accepted setting reads back with its value, and stands in its bytes.
 settings : List Step
@@ -64,9 +65,9 @@ settings =
     ∷ says "SPDH?A" 0 "5000000" ∷ says "SPDM?A" 0 "000001" ∷ says "SPDL?A" 0 "000123" ∷ says "SETLS?A" 0 "11010101" ∷ says "SETMT?A" 0 "1002"
     ∷ says "STSA?" 0 "RASD00-0000012" ∷ holds 704 (0xf4 ∷ 0xff ∷ 0xff ∷ 0xff ∷ 0xff ∷ 0xff ∷ 0xff ∷ 0x7f ∷ 1 ∷ 0 ∷ 0 ∷ 0x80 ∷ []) ∷ []
 
-settings-checked : seen fresh settings ≡ map stated settings
-unfolding computing-urqolina settings fresh after seen stated
-settings-checked = refl
+settings-checked : seen settings ≡ map stated settings
+unfolding computing-urqolina settings fresh Q.after after seenBy stated
+settings-checked = checked settings refl
 
 -- 02 §1: "Wherever a form takes ±d, let a bare d mean plus". x is one byte, and ten digits are the most, leading zeros among them. A
 -- number that is missing, two signs, eleven digits and a sign where d stands are 1, and ten digits above the range 3.
@@ -77,9 +78,9 @@ bare =
     ∷ says "ABSBB5" 1 "" ∷ says "PS02147483648" 3 "" ∷ says "PS012345678901" 1 "" ∷ says "PS00000000007" 0 "" ∷ says "PS?0" 0 "+0000007" ∷ says "PS0-0" 0 ""
     ∷ says "PS?0" 0 "+0000000" ∷ says "SCANP0" 0 "" ∷ says "SPC0+400" 1 "" ∷ says "SPC0400" 0 "" ∷ says "PS07" 2 "" ∷ says "LOC" 0 "" ∷ says "ABS07" 4 "" ∷ []
 
-bare-checked : seen fresh bare ≡ map stated bare
-unfolding computing-urqolina bare fresh after seen stated
-bare-checked = refl
+bare-checked : seen bare ≡ map stated bare
+unfolding computing-urqolina bare fresh Q.after after seenBy stated
+bare-checked = checked bare refl
 
 -- A reading is taken in both modes, replaces the contacts, and ends a drive by the switch of its direction alone. CCW counts
 -- are negative.
@@ -89,9 +90,9 @@ readings =
     ∷ reads 2 3 0 ∷ says "STS2?" 0 "L2S320-0000004" ∷ ticks 2 ccw 0 ∷ reads 16 0 5 ∷ reads 2 8 5 ∷ reads 4294967295 4294967295 5
     ∷ reads 15 7 0 ∷ says "STSF?" 0 "LFS700+0000000" ∷ []
 
-readings-checked : seen fresh readings ≡ map stated readings
-unfolding computing-urqolina readings fresh after seen stated
-readings-checked = refl
+readings-checked : seen readings ≡ map stated readings
+unfolding computing-urqolina readings fresh Q.after after seenBy stated
+readings-checked = checked readings refl
 
 -- 02 §2: "Contacts must be unknown until the channel's first accepted reading." On a channel that was not read no start moves the
 -- motor, whatever SETLS enables, and only what stays where it is is 0; a reading of open contacts makes it ready, and neither stops
@@ -109,25 +110,24 @@ unread =
     ∷ reads 1 0 0 ∷ says "SCANN0" 4 "" ∷ reads 0 0 0 ∷ says "SCANN0" 0 "" ∷ [])
     ∷ []
 
-unread-checked : map (seen fresh) unread ≡ map (λ c. map stated c) unread
-unfolding computing-urqolina unread fresh after seen stated
-unread-checked = refl
+unread-checked : map seen unread ≡ map (λ c. map stated c) unread
+unfolding computing-urqolina unread fresh Q.after after seenBy stated
+unread-checked = all-checked unread refl
 
 -- "Record byte 44 says so (0 unknown, with contacts 0; 1 read); a driving record has 1": what a tick gives on a table with one byte of
--- channel 0's record changed. Bytes 26, 44 and 45 of it stand at 90, 108 and 109.
+-- channel 0's record set otherwise. Bytes 26, 44 and 45 of it stand at 90, 108 and 109.
 abbrev started : List Step
 started = reads 0 0 0 ∷ says "REM" 0 "" ∷ says "SCANP0" 0 "" ∷ []
 
-abbrev changed : List ℕ → ℕ → ℕ → ℕ
-changed t at n = tickCall (put t at (n ∷ [])) (lent 64) .result
+abbrev set : ℕ → ℕ → List ℕ → List ℕ
+set at n t = put t at (n ∷ [])
 
 sound-contacts :
-    (changed fresh 108 0 ∷ changed fresh 108 1 ∷ changed fresh 108 2 ∷ changed fresh 90 1 ∷ changed fresh 109 1 ∷ [] ≡ 0 ∷ 0 ∷ 6 ∷ 6 ∷ 6 ∷ [])
-    × (changed (left fresh (reads 0 5 0 ∷ [])) 108 1 ∷ changed (left fresh (reads 0 5 0 ∷ [])) 108 0 ∷ [] ≡ 0 ∷ 6 ∷ [])
-    × (changed (left fresh started) 108 1 ∷ changed (left fresh started) 108 0 ∷ [] ≡ 0 ∷ 6 ∷ [])
-    × (changed (left fresh (started ++ (says "SSTP0" 0 "" ∷ []))) 108 0 ≡ 0)
-unfolding computing-urqolina fresh after left
-sound-contacts = (refl, refl, refl, refl)
+    (tried [] (set 108 0 ∷ set 108 1 ∷ set 108 2 ∷ set 90 1 ∷ set 109 1 ∷ []) ≡ 0 ∷ 0 ∷ 6 ∷ 6 ∷ 6 ∷ [])
+    × (tried (reads 0 5 0 ∷ []) (set 108 1 ∷ set 108 0 ∷ []) ≡ 0 ∷ 6 ∷ []) × (tried started (set 108 1 ∷ set 108 0 ∷ []) ≡ 0 ∷ 6 ∷ [])
+    × (tried (started ++ (says "SSTP0" 0 "" ∷ [])) (set 108 0 ∷ []) ≡ 0 ∷ [])
+unfolding computing-urqolina fresh Q.after after leftBy
+sound-contacts = (tried-checked _ _ _ refl, tried-checked _ _ _ refl, tried-checked _ _ _ refl, tried-checked _ _ _ refl)
 
 -- 02 §3: "While on .., an accepted start is a held drive", "OFF releases all". REL 0 holds nothing; a held channel is busy to settings and
 -- starts, REL 0 too, SPC sets its coming speed, and ticks give it nothing until its release. Stops and the switch of its direction end
@@ -148,31 +148,37 @@ pausing =
     ∷ says "PAUSE  ON" 1 "COMMAND ERROR" ∷ [])
     ∷ []
 
-pausing-checked : map (seen fresh) pausing ≡ map (λ c. map stated c) pausing
-unfolding computing-urqolina pausing fresh after seen stated
-pausing-checked = refl
+pausing-checked : map seen pausing ≡ map (λ c. map stated c) pausing
+unfolding computing-urqolina pausing fresh Q.after after seenBy stated
+pausing-checked = all-checked pausing refl
 
--- "a held record is sound only under pause, and otherwise as a driving one": what a tick gives on a table with one byte changed, the
--- record of channel 0 from byte 64 on. Bytes 26, 27, 31, 32, 34, 40 and 44 of it stand at 90, 91, 95, 96, 98, 104 and 108.
+-- "a held record is sound only under pause, and otherwise as a driving one": what a tick gives on a table with some bytes set otherwise,
+-- the record of channel 0 from byte 64 on. Bytes 26, 27, 31, 32, 34, 40 and 44 of it stand at 90, 91, 95, 96, 98, 104 and 108.
 abbrev waiting : List Step
 waiting = reads 0 0 0 ∷ says "REM" 0 "" ∷ says "PAUSE ON" 0 "" ∷ []
 
-unfoldable heldThree : List ℕ
-heldThree = left fresh (waiting ++ (says "REL0+3" 0 "" ∷ []))
+abbrev heldThree : List Step
+heldThree = waiting ++ (says "REL0+3" 0 "" ∷ [])
 
-unfoldable heldScan : List ℕ
-heldScan = left fresh (waiting ++ (says "SCANP0" 0 "" ∷ []))
+abbrev heldScan : List Step
+heldScan = waiting ++ (says "SCANP0" 0 "" ∷ [])
 
 sound-held :
-    (changed fresh 3 1 ∷ changed fresh 3 2 ∷ [] ≡ 0 ∷ 6 ∷ []) × (tickCall (left fresh (started ++ (says "PAUSE ON" 0 "" ∷ []))) (lent 64) .result ≡ 0)
-    × (changed heldThree 3 1 ∷ changed heldThree 3 0 ∷ [] ≡ 0 ∷ 6 ∷ [])
-    × (changed (left fresh started) 96 3 ∷ changed (put (left fresh started) 3 (1 ∷ [])) 96 3 ∷ [] ≡ 6 ∷ 0 ∷ [])
-    × (changed heldThree 96 5 ∷ changed heldThree 96 4 ∷ changed heldScan 96 4 ∷ changed heldScan 96 5 ∷ changed heldScan 96 0 ∷ [] ≡ 6 ∷ 6 ∷ 0 ∷ 6 ∷ 6 ∷ [])
-    × (changed heldThree 95 0x40 ∷ changed heldThree 91 0 ∷ changed heldThree 108 0 ∷ changed heldThree 90 1 ∷ changed heldThree 90 2 ∷ [] ≡ 6 ∷ 6 ∷ 6 ∷ 6 ∷ 0 ∷ [])
-    × (changed heldThree 104 0 ∷ changed heldThree 98 5 ∷ changed (put heldThree 101 (0 ∷ [])) 100 0 ∷ [] ≡ 6 ∷ 0 ∷ 6 ∷ [])
-    × (changed (put heldScan 68 (0 ∷ 0 ∷ 0 ∷ [])) 89 0xf0 ≡ 6)
-unfolding computing-urqolina fresh after left heldThree heldScan
-sound-held = (refl, refl, refl, refl, refl, refl, refl, refl)
+    (tried [] (set 3 1 ∷ set 3 2 ∷ []) ≡ 0 ∷ 6 ∷ []) × (tried (started ++ (says "PAUSE ON" 0 "" ∷ [])) ((λ t. t) ∷ []) ≡ 0 ∷ [])
+    × (tried started (set 96 3 ∷ (λ t. set 96 3 (set 3 1 t)) ∷ []) ≡ 6 ∷ 0 ∷ []) × (tried heldThree (set 3 1 ∷ set 3 0 ∷ set 96 5 ∷ set 96 4 ∷ []) ≡ 0 ∷ 6 ∷ 6 ∷ 6 ∷ [])
+    × (tried heldScan (set 96 4 ∷ set 96 5 ∷ set 96 0 ∷ (λ t. set 89 0xf0 (put t 68 (0 ∷ 0 ∷ 0 ∷ []))) ∷ []) ≡ 0 ∷ 6 ∷ 6 ∷ 6 ∷ [])
+    × (tried heldThree (set 95 0x40 ∷ set 91 0 ∷ set 108 0 ∷ set 90 1 ∷ set 90 2 ∷ []) ≡ 6 ∷ 6 ∷ 6 ∷ 6 ∷ 0 ∷ [])
+    × (tried heldThree (set 104 0 ∷ set 98 5 ∷ (λ t. set 100 0 (set 101 0 t)) ∷ []) ≡ 6 ∷ 0 ∷ 6 ∷ [])
+unfolding computing-urqolina fresh Q.after after leftBy
+sound-held = (
+  tried-checked _ _ _ refl,
+  tried-checked _ _ _ refl,
+  tried-checked _ _ _ refl,
+  tried-checked _ _ _ refl,
+  tried-checked _ _ _ refl,
+  tried-checked _ _ _ refl,
+  tried-checked _ _ _ refl,
+)
 
 -- A stop of one channel leaves the drive of another; ASSTP and AESTP stop all that drive and leave the end flags of the rest.
 stops : List Step
@@ -181,9 +187,9 @@ stops =
     ∷ says "ESTPF" 0 "" ∷ says "AESTP" 0 "" ∷ says "STS0?" 0 "R0S040+0000000" ∷ says "STS1?" 0 "R1S080+0000000" ∷ says "STSF?" 0 "RFS080+0000000"
     ∷ says "JOGN1" 0 "" ∷ says "ASSTP" 0 "" ∷ says "STS1?" 0 "R1S040+0000000" ∷ says "STSF?" 0 "RFS080+0000000" ∷ says "STS2?" 0 "R2S000+0000000" ∷ []
 
-stops-checked : seen fresh stops ≡ map stated stops
-unfolding computing-urqolina stops fresh after seen stated
-stops-checked = refl
+stops-checked : seen stops ≡ map stated stops
+unfolding computing-urqolina stops fresh Q.after after seenBy stated
+stops-checked = checked stops refl
 
 -- Inputs that no call may take: tables of 0, 1,087 and 1,089 bytes and one of all FFh, buffers too short and too long. The
 -- sizes come before the table, and nothing is changed anywhere.

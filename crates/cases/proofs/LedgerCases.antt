@@ -1,7 +1,7 @@
 -- What the demands are stated with, computed on cases of our library: deeds, accounts, ways, read-back and last ticks. Each value
 -- was worked out from document 01 first, as the comment above it says, and is one computation. Assumes nothing.
 use Prim.Native.Nat.{ℕ, _+_, _-_}
-use mathlib.Core.Path.{_≡_, refl}
+use mathlib.Core.Path.{_≡_, refl, _∙_}
 use mathlib.Core.List.{List, [], _∷_, _++_, map}
 use mathlib.Core.Bool.{Bool, true, false}
 use lib.ListN.{replicate}
@@ -22,40 +22,46 @@ use Rattle.laws.specs.Neighbours.{ofHead}
 use Rattle.laws.specs.ReadBack.{textFor, topic, changedBy, changes, writesField, isSome, changesHead}
 use Rattle.laws.specs.Pulses.{accountNow, travelNow, settingsNow, disturbs, distance, lastTick}
 use Rattle.laws.specs.Contacts.{untold, toldNow}
-use Rattle.cases.proofs.Beginnings.{lent, says, ticked, ready, running, over, aimedAt, underPause, waiting}
+use Rattle.cases.proofs.Beginnings.{lent, says, ticked, ready, running, ended, over, aimedAt, underPause, waiting}
+use Rattle.cases.proofs.Unjudged.{unjudged, same-account-now}
 
 -- The account of channel 0 after a sequence. Fresh has MSPD selected, 800 pps: from a start on, the pulses are the thousands in
 -- 800, 1600, 2400, .., so 0, 1, 1, 1, 1.
-abbrev accountAfter : List Call → Account
+unfoldable accountAfter : List Call → Account
 accountAfter ks = accountNow urqolina lent 0 ks
+
+-- It is computed with the table unjudged.
+accounted : (ks : List Call) (a : Account) → accountNow unjudged lent 0 ks ≡ a → accountAfter ks ≡ a
+unfolding accountAfter
+accounted ks a e = same-account-now lent 0 ks ∙ e
 
 -- Five ticks of a scan: S = 5 · 800, P = 0 + 1 + 1 + 1 + 1. A scan lasts.
 scan-account :
     accountAfter (ready ++ (says "SCANP0" ∷ ticked ∷ ticked ∷ ticked ∷ ticked ∷ ticked ∷ []))
     ≡ running cw 800 4000 4
 unfolding computing-laws
-scan-account = refl
+scan-account = accounted _ _ refl
 
 -- SPC's speed is in force from the next tick on: S = 800 + 400, and the thousand in it is given, since SPC "keeps the fraction".
 speed-change-account :
     accountAfter (ready ++ (says "SCANP0" ∷ ticked ∷ says "SPC0400" ∷ ticked ∷ []))
     ≡ running cw 400 1200 1
 unfolding computing-laws
-speed-change-account = refl
+speed-change-account = accounted _ _ refl
 
 -- "A stop ends the drive at once": what its one tick added stays, 800 and no pulse.
 stop-account :
     accountAfter (ready ++ (says "SCANP0" ∷ ticked ∷ says "SSTP0" ∷ []))
     ≡ over cw 800 800 0
 unfolding computing-laws
-stop-account = refl
+stop-account = accounted _ _ refl
 
 -- A second start is a new drive: S and P begin anew.
 second-account :
     accountAfter (ready ++ (says "SCANP0" ∷ ticked ∷ says "ESTP0" ∷ says "SCANN0" ∷ []))
     ≡ running ccw 800 0 0
 unfolding computing-laws
-second-account = refl
+second-account = accounted _ _ refl
 
 -- Marked case 3, "one tick, one pulse, stopped": 5,000 are due, the distance is 1, and the tick that ends the drive is one of its
 -- ticks.
@@ -63,16 +69,16 @@ target-account :
     accountAfter (ready ++ (says "SPDM05000000" ∷ says "ABS0+1" ∷ ticked ∷ []))
     ≡ aimedAt (origin + 1) (over cw 5000000 5000000 1)
 unfolding computing-laws
-target-account = refl
+target-account = accounted _ _ refl
 
 -- No drive begins in local mode (4), nor with REL 0, which is "OK and change[s] nothing".
 local-account : accountAfter (says "SCANP0" ∷ ticked ∷ []) ≡ noDrive
 unfolding computing-laws
-local-account = refl
+local-account = accounted _ _ refl
 
 stay-account : accountAfter (ready ++ (says "REL0+0" ∷ ticked ∷ [])) ≡ noDrive
 unfolding computing-laws
-stay-account = refl
+stay-account = accounted _ _ refl
 
 -- A pulse buffer of 63 bytes: "A refused tick (5 or 6) is no tick of any drive". It adds no speed, and the AAh that it was lent
 -- are no pulses.
@@ -80,7 +86,7 @@ refused-tick-account :
     accountAfter (ready ++ (says "SCANP0" ∷ tick (replicate 63 0xaa) ∷ []))
     ≡ running cw 800 0 0
 unfolding computing-laws
-refused-tick-account = refl
+refused-tick-account = accounted _ _ refl
 
 -- 02 §3: a drive that starts under pause is held, and the ticks that come add nothing, S = 0 and P = 0, until an accepted PAUSE OFF; from
 -- then on they count, with the speed that SPC set: S = 3 · 400, P = 1. One that runs already counts on under pause: S = 2 · 800. REL 0
@@ -91,9 +97,9 @@ held-accounts :
     × (accountAfter (ready ++ (says "SCANP0" ∷ says "PAUSE ON" ∷ ticked ∷ ticked ∷ [])) ≡ underPause (running cw 800 1600 1))
     × (accountAfter (ready ++ (says "PAUSE ON" ∷ says "REL0+0" ∷ ticked ∷ [])) ≡ underPause noDrive)
     × (accountAfter (ready ++ (says "PAUSE ON" ∷ says "SCANP0" ∷ says "LOC" ∷ says "PAUSE OFF" ∷ ticked ∷ [])) ≡ waiting cw 800)
-    × (accountAfter (ready ++ (says "PAUSE ON" ∷ says "SCANP0" ∷ says "SSTP0" ∷ [])) .lasts ≡ false)
+    × (accountAfter (ready ++ (says "PAUSE ON" ∷ says "SCANP0" ∷ says "SSTP0" ∷ [])) ≡ ended (waiting cw 800))
 unfolding computing-laws
-held-accounts = (refl, refl, refl, refl, refl, refl)
+held-accounts = (accounted _ _ refl, accounted _ _ refl, accounted _ _ refl, accounted _ _ refl, accounted _ _ refl, accounted _ _ refl)
 
 -- "sixteen signed 32-bit counts, CW positive": 3, and -2 as the word FFFFFFFEh, in the words of channels 0 and 1.
 counts-told :
@@ -236,7 +242,7 @@ last-tick :
     × (accountAfter aimed ≡ aimedAt (origin - 3) (running ccw 800 0 0))
     × (ticksIn urqolina 0 localTable noDrive (ticked ∷ says "PS?0" ∷ tick [] ∷ ticked ∷ reading 0 0 ∷ []) ≡ 2)
 unfolding computing-laws localTable
-last-tick = (refl, refl, refl, refl)
+last-tick = (refl, refl, accounted _ _ refl, refl)
 
 -- 02 §3: "01's last-tick formula counts from release", with the speed in force there: 3 pulses at 1,000 pps end with the third tick that
 -- counts, and of these five ticks the two after PAUSE OFF do.
@@ -247,7 +253,7 @@ last-from-release :
     (lastTick urqolina lent 0 awaiting (origin + 3) [] ≡ 3)
     × (ticksIn urqolina 0 (ran urqolina lent awaiting) (accountAfter awaiting) (ticked ∷ ticked ∷ ticked ∷ says "PAUSE OFF" ∷ ticked ∷ ticked ∷ []) ≡ 2)
     × (accountAfter awaiting ≡ aimedAt (origin + 3) (waiting cw 1000))
-unfolding computing-laws
+unfolding computing-laws accountAfter
 last-from-release = (refl, refl, refl)
 
 -- Orders of each kind, and a line that is none: what is a read, what is of the head, what changes the mode or all-reply, what names

@@ -1,3 +1,4 @@
+pub mod Unjudged
 pub mod Steps
 pub mod Marked
 pub mod Cases

@@ -1,11 +1,12 @@
 -- The checked list: document 01's worked example and its ten marked cases, each from the bytes that a fresh call makes, "each
 -- from fresh and REM unless said". 02 §2: "The bench cases gain an `S` line for their channel first." One statement, and its proof
--- is one computation on the definitions.
+-- is one computation (`all-checked` of Steps).
 use mathlib.Core.Path.{_≡_, refl}
 use mathlib.Core.List.{List, [], _∷_, map}
 use Rattle.urqolina.specs.Computing.{computing-urqolina}
 use Rattle.digits.specs.Places.{cw}
-use Rattle.cases.proofs.Steps.{Step, says, reads, ticks, holds, fresh, after, seen, stated}
+use Rattle.laws.specs.Sequences as Q
+use Rattle.cases.proofs.Steps.{Step, says, reads, ticks, holds, fresh, after, seenBy, seen, stated, all-checked}
 
 pub cases : List (List Step)
 cases =
@@ -38,6 +39,6 @@ cases =
     ∷ [])
     ∷ []
 
-marked : map (seen fresh) cases ≡ map (λ c. map stated c) cases
-unfolding computing-urqolina cases fresh after seen stated
-marked = refl
+marked : map seen cases ≡ map (λ c. map stated c) cases
+unfolding computing-urqolina cases fresh Q.after after seenBy stated
+marked = all-checked cases refl

@@ -1,16 +1,23 @@
 -- Calls with what they must give, as a list to be computed: each step names a call and states its number, its reply or its
--- pulses. `seen` is what the definitions give, `stated` what the list says; a checked list is the equation of the two.
+-- pulses. `seen` is what the definitions give, `stated` what the list says; a checked list is the equation of the two. It is
+-- computed on the library that does not judge its table, since from fresh on that gives the same.
 use Prim.Native.Nat.{ℕ, _+_, _*_, _-_}
 use Prim.Native.String as S
-use mathlib.Core.List.{List, [], _∷_, _++_}
-use mathlib.Core.Bool.{cond}
+use mathlib.Core.Path.{_≡_, refl, ap, _∙_}
+use mathlib.Core.List.{List, [], _∷_, _++_, map}
+use mathlib.Core.Bool.{true, cond}
 use lib.ListN.{length, replicate}
 use lib.Dec.{eqb}
 use Rattle.digits.specs.Bytes.{part, gather}
 use Rattle.digits.specs.Words.{wordBytes}
 use Rattle.digits.specs.Places.{countOf}
 use Rattle.text.specs.Text.{bytes}
-use Rattle.urqolina.specs.Calls.{freshCall, commandCall, readingCall, tickCall}
+use Rattle.table.specs.Sound.{soundTable}
+use Rattle.urqolina.specs.Calls.{freshCall, tickCall}
+use Rattle.laws.specs.Sequences as Q
+use Rattle.laws.proofs.Following.{next}
+use Rattle.laws.proofs.LastingLaws.{ran-sound}
+use Rattle.cases.proofs.Unjudged.{unjudged, same-call}
 
 -- a call, with what it must give
 pub data Step : Type 0 where
@@ -36,35 +43,35 @@ pub record Shown : Type 0 where
   pub result : ℕ
   pub buffer : List ℕ
 
--- what a step leaves: what it shows, and the table after it
-pub record After : Type 0 where
-  pub shown : Shown
-  pub table : List ℕ
+-- a step made on a table by a library; a step that looks at the table changes nothing
+unfoldable pub after : Q.Library → List ℕ → Step → Q.After
+after l t (says s n r) = Q.after l t (Q.command (bytes s) (lent 32))
+after l t (reads c k n) = Q.after l t (Q.reading c k)
+after l t (ticks c g n) = Q.after l t (Q.tick (lent 64))
+after l t (holds at b) = record { result = 0; table = t; buffer = part t at (length b) }
 
--- a step made on a table; a step that looks at the table changes nothing
-unfoldable pub after : List ℕ → Step → After
-after t (says s n r) =
-    let a = commandCall t (bytes s) (lent 32) in
-    record { shown = record { result = a .result; buffer = a .reply }; table = a .table }
-after t (reads c k n) =
-    let a = readingCall t c k in
-    record { shown = record { result = a .result; buffer = [] }; table = a .table }
-after t (ticks c g n) =
-    let a = tickCall t (lent 64) in
-    record { shown = record { result = a .result; buffer = a .pulses }; table = a .table }
-after t (holds at b) = record { shown = record { result = 0; buffer = part t at (length b) }; table = t }
+-- what a library shows for a list of steps, each made on the table that the one before it left
+unfoldable pub seenBy : Q.Library → List ℕ → List Step → List Shown
+seenBy l t [] = []
+seenBy l t (s ∷ ss) =
+    let a = after l t s in
+    record { result = a .result; buffer = a .buffer } ∷ seenBy l (a .table) ss
 
--- what the definitions show for a list of steps, each made on the table that the one before it left
-unfoldable pub seen : List ℕ → List Step → List Shown
-seen t [] = []
-seen t (s ∷ ss) =
-    let a = after t s in
-    a .shown ∷ seen (a .table) ss
+-- the table that it leaves
+unfoldable pub leftBy : Q.Library → List ℕ → List Step → List ℕ
+leftBy l t [] = t
+leftBy l t (s ∷ ss) = leftBy l (after l t s .table) ss
 
--- the table that a list of steps leaves
-unfoldable pub left : List ℕ → List Step → List ℕ
-left t [] = t
-left t (s ∷ ss) = left (after t s .table) ss
+-- what ours shows from fresh on
+abbrev pub seen : List Step → List Shown
+seen ss = seenBy Q.urqolina fresh ss
+
+-- what a tick gives on a table after each of some changes of its bytes; on the one that ours leaves from fresh on
+abbrev pub ticksOn : List (List ℕ → List ℕ) → List ℕ → List ℕ
+ticksOn changes t = map (λ f. tickCall (f t) (lent 64) .result) changes
+
+unfoldable pub tried : List Step → List (List ℕ → List ℕ) → List ℕ
+tried ss changes = ticksOn changes (leftBy Q.urqolina fresh ss)
 
 -- the reply that a list states, in a lent buffer: the bytes past it as they were
 abbrev pub replied : ℕ → List ℕ → Shown
@@ -76,3 +83,48 @@ stated (says s n r) = replied n (bytes r)
 stated (reads c k n) = record { result = n; buffer = [] }
 stated (ticks c g n) = record { result = 0; buffer = gather (λ k. wordBytes 4 (cond (eqb k c) (countOf g n) 0)) 16 }
 stated (holds at b) = record { result = 0; buffer = b }
+
+-- A step on a sound table is the same with the table judged and unjudged, and leaves a sound table.
+same-step : (t : List ℕ) (s : Step) → soundTable t ≡ true → after Q.urqolina t s ≡ after unjudged t s
+unfolding after
+same-step t (says l n r) s = same-call t (Q.command (bytes l) (lent 32)) s
+same-step t (reads c k n) s = same-call t (Q.reading c k) s
+same-step t (ticks c g n) s = same-call t (Q.tick (lent 64)) s
+same-step t (holds at b) s = refl
+
+step-sound : (t : List ℕ) (s : Step) → soundTable t ≡ true → soundTable (after Q.urqolina t s .table) ≡ true
+unfolding after
+step-sound t (says l n r) s = next t (Q.command (bytes l) (lent 32)) s .sound
+step-sound t (reads c k n) s = next t (Q.reading c k) s .sound
+step-sound t (ticks c g n) s = next t (Q.tick (lent 64)) s .sound
+step-sound t (holds at b) s = s
+
+same-seen : (t : List ℕ) (ss : List Step) → soundTable t ≡ true → seenBy Q.urqolina t ss ≡ seenBy unjudged t ss
+unfolding seenBy
+same-seen t [] s = refl
+same-seen t (k ∷ ks) s = rw (← same-step t k s, same-seen (after Q.urqolina t k .table) ks (step-sound t k s))
+
+same-left : (t : List ℕ) (ss : List Step) → soundTable t ≡ true → leftBy Q.urqolina t ss ≡ leftBy unjudged t ss
+unfolding leftBy
+same-left t [] s = refl
+same-left t (k ∷ ks) s = rw (← same-step t k s) (same-left (after Q.urqolina t k .table) ks (step-sound t k s))
+
+fresh-is-sound : soundTable fresh ≡ true
+unfolding fresh Q.run
+fresh-is-sound = ran-sound (record { bytes = lent 1088; whole = refl }) []
+
+-- So a list is checked where it is with the table unjudged; a list of lists; and what ticks give on the table that a list leaves.
+pub checked : (ss : List Step) → seenBy unjudged fresh ss ≡ map stated ss → seen ss ≡ map stated ss
+checked ss e = same-seen fresh ss fresh-is-sound ∙ e
+
+pub all-checked : (cs : List (List Step)) → map (seenBy unjudged fresh) cs ≡ map (λ c. map stated c) cs → map seen cs ≡ map (λ c. map stated c) cs
+all-checked cs e = go cs ∙ e
+  where
+    go : (cs : List (List Step)) → map seen cs ≡ map (seenBy unjudged fresh) cs
+    go [] = refl
+    go (c ∷ cs) = rw (same-seen fresh c fresh-is-sound, go cs)
+
+pub tried-checked : (ss : List Step) (changes : List (List ℕ → List ℕ)) (numbers : List ℕ) → ticksOn changes (leftBy unjudged fresh ss) ≡ numbers
+    → tried ss changes ≡ numbers
+unfolding tried
+tried-checked ss changes numbers e = ap (ticksOn changes) (same-left fresh ss fresh-is-sound) ∙ e
