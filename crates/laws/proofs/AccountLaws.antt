@@ -232,7 +232,7 @@ pause-balanced m k a b = go (eqb k 0)
 
     after : Motor → Bool → Account
     after n t =
-        record { lasts = a .lasts && busy n; counting = a .counting || t; paused = eqb k 1; going = a .going; aim = a .aim; speed = a .speed; sum = a .sum; pulses = a .pulses }
+        record { lasts = a .lasts && busy n; counting = a .counting || t; paused = pausing a k .paused; going = a .going; aim = a .aim; speed = a .speed; sum = a .sum; pulses = a .pulses }
 
     go : (t : Bool) → Balanced (cond t (released m) m) (after (cond t (released m) m) t)
     go false = record { lasting = lasts ∙ b .lasting; counting = rw (lasts, or-false (a .counting)) (b .counting); going = b .going; aim = b .aim; speed = b .speed; exact = b .exact; most = b .most }
