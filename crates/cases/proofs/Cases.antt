@@ -129,21 +129,24 @@ sound-contacts :
 unfolding computing-urqolina fresh Q.after after leftBy
 sound-contacts = (tried-checked _ _ _ refl, tried-checked _ _ _ refl, tried-checked _ _ _ refl, tried-checked _ _ _ refl)
 
--- 02 §3: "While on .., an accepted start is a held drive", "OFF releases all". REL 0 holds nothing; a held channel is busy to settings and
--- starts, REL 0 too, SPC sets its coming speed, and ticks give it nothing until its release. Stops and the switch of its direction end
+-- 02 §3: "While on .., an accepted start is a held drive", "OFF releases all". REL 0 and ABS to the present position hold
+-- nothing; what is held has all that its start wrote, with 3 in byte 32 (bytes 31 to 43 stand at 95 to 107). A held channel is busy to
+-- settings and starts, REL 0 too, SPC sets its coming speed, and ticks give it nothing until its release, which changes byte 32. Stops and the switch of its direction end
 -- it, with their flags, in both modes; the other switch and HP end nothing. What runs already runs on. LOC and REM leave pause, and in
--- local mode neither ON nor OFF is taken.
+-- local mode neither ON, OFF nor SPC is taken.
 pausing : List (List Step)
 pausing =
-    (reads 0 0 0 ∷ says "REM" 0 "" ∷ says "PAUSE?" 0 "OFF" ∷ says "PAUSE ON" 0 "" ∷ says "REL0+0" 0 "" ∷ says "STS0?" 0 "R0S000+0000000" ∷ says "REL0+3" 0 ""
+    (reads 0 0 0 ∷ says "REM" 0 "" ∷ says "PAUSE?" 0 "OFF" ∷ says "PAUSE ON" 0 "" ∷ says "REL0+0" 0 "" ∷ says "ABS0+0" 0 "" ∷ says "STS0?" 0 "R0S000+0000000" ∷ says "REL0+3" 0 ""
+    ∷ holds 3 (1 ∷ []) ∷ holds 95 (0 ∷ 3 ∷ 1 ∷ 0 ∷ 0 ∷ 0x20 ∷ 3 ∷ 0 ∷ 0 ∷ 3 ∷ 0 ∷ 0 ∷ 0 ∷ [])
     ∷ says "REL0+0" 2 "" ∷ says "ABS0+0" 2 "" ∷ says "PS0+5" 2 "" ∷ says "SPDH0" 2 "" ∷ says "SETMT01100" 2 "" ∷ says "SPC00" 3 "" ∷ says "SPC01000" 0 ""
-    ∷ ticks 0 cw 0 ∷ says "STS0?" 0 "R0S001+0000000" ∷ says "PAUSE ON" 0 "" ∷ says "PAUSE OFF" 0 "" ∷ ticks 0 cw 1 ∷ ticks 0 cw 1 ∷ says "STS0?" 0 "R0P003+0000002"
+    ∷ ticks 0 cw 0 ∷ says "STS0?" 0 "R0S001+0000000" ∷ says "PAUSE ON" 0 "" ∷ says "PAUSE OFF" 0 ""
+    ∷ holds 3 (0 ∷ []) ∷ holds 95 (0 ∷ 1 ∷ 1 ∷ 0 ∷ 0 ∷ 0xe8 ∷ 3 ∷ 0 ∷ 0 ∷ 3 ∷ 0 ∷ 0 ∷ 0 ∷ []) ∷ ticks 0 cw 1 ∷ ticks 0 cw 1 ∷ says "STS0?" 0 "R0P003+0000002"
     ∷ ticks 0 cw 1 ∷ says "STS0?" 0 "R0S000+0000003" ∷ says "PAUSE OFF" 0 "" ∷ [])
     ∷ (reads 0 0 0 ∷ reads 1 0 0 ∷ says "REM" 0 "" ∷ says "PAUSE ON" 0 "" ∷ says "SCANP0" 0 "" ∷ says "SCANN1" 0 "" ∷ reads 0 6 0 ∷ says "STS0?" 0 "R0S601+0000000"
     ∷ reads 1 5 0 ∷ says "STS1?" 0 "R1S501+0000000" ∷ says "LOC" 0 "" ∷ reads 1 2 0 ∷ says "STS1?" 0 "L1S220+0000000" ∷ says "ESTP0" 0 "" ∷ says "STS0?" 0 "L0S680+0000000"
     ∷ says "PAUSE?" 0 "ON" ∷ ticks 0 cw 0 ∷ [])
     ∷ (reads 0 0 0 ∷ reads 1 0 0 ∷ says "REM" 0 "" ∷ says "SPDM01000" 0 "" ∷ says "SCANP0" 0 "" ∷ says "PAUSE ON" 0 "" ∷ says "JOGN1" 0 "" ∷ ticks 0 cw 1
-    ∷ says "LOC" 0 "" ∷ says "PAUSE OFF" 4 "" ∷ says "PAUSE ON" 4 "" ∷ says "STS1?" 0 "L1S001+0000000" ∷ says "REM" 0 "" ∷ says "STS1?" 0 "R1S001+0000000" ∷ says "ASSTP" 0 ""
+    ∷ says "LOC" 0 "" ∷ says "SPC1400" 4 "" ∷ says "PAUSE OFF" 4 "" ∷ says "PAUSE ON" 4 "" ∷ says "STS1?" 0 "L1S001+0000000" ∷ says "REM" 0 "" ∷ says "STS1?" 0 "R1S001+0000000" ∷ says "ASSTP" 0 ""
     ∷ says "STS0?" 0 "R0S040+0000001" ∷ says "STS1?" 0 "R1S040+0000000" ∷ says "ALL_REP EN" 0 "OK" ∷ says "PAUSE OFF" 0 "OK" ∷ says "PAUSE?" 0 "OFF" ∷ says "PAUSE" 1 "COMMAND ERROR"
     ∷ says "PAUSE  ON" 1 "COMMAND ERROR" ∷ [])
     ∷ []
@@ -153,7 +156,8 @@ unfolding computing-urqolina pausing fresh Q.after after seenBy stated
 pausing-checked = all-checked pausing refl
 
 -- "a held record is sound only under pause, and otherwise as a driving one": what a tick gives on a table with some bytes set otherwise,
--- the record of channel 0 from byte 64 on. Bytes 26, 27, 31, 32, 34, 40 and 44 of it stand at 90, 91, 95, 96, 98, 104 and 108.
+-- the record of channel 0 from byte 64 on. Bytes 4, 25, 26, 27, 31, 32, 34, 36, 40 and 44 of it stand at 68, 89, 90,
+-- 91, 95, 96, 98, 100, 104 and 108.
 abbrev waiting : List Step
 waiting = reads 0 0 0 ∷ says "REM" 0 "" ∷ says "PAUSE ON" 0 "" ∷ []
 

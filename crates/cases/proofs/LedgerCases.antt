@@ -256,7 +256,7 @@ last-from-release :
 unfolding computing-laws accountAfter
 last-from-release = (refl, refl, refl)
 
--- Orders of each kind, and a line that is none: what is a read, what is of the head, what changes the mode or all-reply, what names
+-- Orders of each kind, and a line that is none: what is a read, what is of the head, what changes the mode, all-reply or pause, what names
 -- channel 0, and what it is to channel 0.
 abbrev kinds : List (List ℕ)
 kinds =

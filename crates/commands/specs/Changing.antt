@@ -14,7 +14,8 @@ use Rattle.orders.specs.Settings.{courseOf, withSetting}
 use Rattle.table.specs.declared.head.Head.{Head}
 use Rattle.table.specs.Layout.{headOf, paused, withHead, withMode, withReply, withErrors, withPause, motorAt, withMotor, withMotors}
 
--- the head after an accepted order of it. "ERRC clears all error flags, ERRCe bit e, 0 to 3."
+-- the head after an accepted order of it. "ERRC clears all error flags, ERRCe bit e, 0 to 3." 02 §3: "ON and OFF repeated are OK", and
+-- write what is there
 unfoldable pub headChanged : Head → HeadOrder → Head
 headChanged h (Mode k) = withMode h k
 headChanged h (AllReply k) = withReply h k

@@ -35,7 +35,7 @@ judgeMotor t (Ask x q) = Done
 judgeMotor t (AskHead q) = Done
 judgeMotor t (ForHead h) = Done
 
--- "Order: .. local mode, value, busy, target out of range .., the other causes of 4."
+-- "Order: .. local mode, value, busy, target out of range .., the other causes of 4." 02 §3: "Refusals: none new"
 unfoldable pub judge : List ℕ → Order → Verdict
 judge t o =
     cond (needsRemote o && eqb (headOf t .mode) 0) LocalMode

@@ -91,7 +91,7 @@ stopped flags m = cond (busy m) (endedWith flags m) m
 abbrev pub judgeSpeedChange : Motor → Verdict
 judgeSpeedChange m = cond (busy m) Done NotDriving
 
--- "SPC replaces the speed in force and keeps the fraction."
+-- "SPC replaces the speed in force and keeps the fraction." 02 §3: "SPC on a held motor sets its coming speed."
 unfoldable pub speedChanged : Motor → ℕ → Motor
 speedChanged m v = withDrive m (m .ended) (withSpeedInForce (m .drive) v)
 

@@ -1,6 +1,6 @@
 -- The bytes that a call leaves as they were, for every table and all inputs. Assumes nothing.
-use mathlib.Core.Path.{_≡_, refl, sym, _∙_}
-use mathlib.Core.List.{List, append-nil, flatMap}
+use mathlib.Core.Path.{_≡_, refl, sym, ap, _∙_}
+use mathlib.Core.List.{List, [], _∷_, append-nil, flatMap}
 use mathlib.Core.Bool.{Bool, true, false, _&&_, cond, false≢true}
 use Prim.Native.Nat.{ℕ, _+_, _%_, _≤_}
 use native.Mathlib.Omega.{arith}
@@ -14,7 +14,7 @@ use Rattle.motor.specs.Sound.{busy, moving}
 use Rattle.drive.specs.Drives.{released, stopped}
 use Rattle.pulses.specs.Ticks.{tickMotor}
 use Rattle.pulses.proofs.Laws.{stopped-given-none}
-use Rattle.drive.proofs.Laws.{stopped-again, released-free}
+use Rattle.drive.proofs.Laws.{stopped-again, released-as, released-free}
 use Rattle.line.specs.declared.HeadOrder.{HeadOrder}
 use Rattle.line.specs.declared.HeadOrder.the-variants.{Mode, AllReply, ClearErrors, ClearError, Pause}
 use Rattle.line.specs.declared.Order.{Order}
@@ -28,6 +28,7 @@ use Rattle.table.specs.declared.head.Head.{Head}
 use Rattle.table.specs.Layout.{headOf, withHead, recordAt, records, motorAt, withMotor, withMotors}
 use Rattle.table.specs.Sound.{soundTable}
 use Rattle.record.proofs.RoundTrip.{record-length}
+use Rattle.record.proofs.ProgressLaws.{way-written}
 use Rattle.table.proofs.PieceLaws.{flat-length, part-before}
 use Rattle.table.proofs.TableLaws.{sound-length, sound-record-at}
 use Rattle.table.proofs.KeptLaws.{written-record, head-kept, record-kept, read-back}
@@ -130,6 +131,56 @@ unreleased t line reply o k d bytes h e q free =
     command-left t line reply o d e
     (λ s. rw q (λ off. (h, rw (released-free (motorAt t d) (rw off at free)) (written-back t d s bytes h))))
 
+-- What is PAUSE OFF to some channel is PAUSE OFF.
+abbrev isPause : Deed → Bool
+isPause (starts s) = false
+isPause (stops flags) = false
+isPause (speeds v) = false
+isPause (sets s) = false
+isPause (reads n) = false
+isPause ticks = false
+isPause (pauses k) = eqb k 0
+isPause rests = false
+
+no-pause : (b : Bool) (d : Deed) → isPause d ≡ false → deedIf b d ≡ pauses 0 → ⊥
+no-pause true d e h = false≢true (sym e ∙ ap isPause h)
+no-pause false d e h = false≢true (ap isPause h)
+
+off-order : (o : Order) (d : ℕ) → deedOf d o ≡ pauses 0 → o ≡ ForHead (Pause 0)
+unfolding deedOf
+off-order (Go x s) d q = absurd (no-pause (eqb x d) (starts s) refl q)
+off-order (Stop x f) d q = absurd (no-pause (eqb x d) (stops f) refl q)
+off-order (StopAll f) d q = absurd (no-pause true (stops f) refl q)
+off-order (ChangeSpeed x v) d q = absurd (no-pause (eqb x d) (speeds v) refl q)
+off-order (Set x s) d q = absurd (no-pause (eqb x d) (sets s) refl q)
+off-order (Ask x a) d q = absurd (no-pause false rests refl q)
+off-order (AskHead a) d q = absurd (no-pause false rests refl q)
+off-order (ForHead (Mode k)) d q = absurd (no-pause false rests refl q)
+off-order (ForHead (AllReply k)) d q = absurd (no-pause false rests refl q)
+off-order (ForHead ClearErrors) d q = absurd (no-pause false rests refl q)
+off-order (ForHead (ClearError e)) d q = absurd (no-pause false rests refl q)
+off-order (ForHead (Pause k)) d q = rw (eqb-true k 0 (ap isPause q))
+
+-- It changes of a record byte 32 alone.
+released-bytes : (t : List ℕ) (o : Order) (d : ℕ) → soundTable t ≡ true → AllBytes t → d ≤ 15 → deedOf d o ≡ pauses 0
+    → recordAt (changed t o) d ≡ put (recordAt t d) 32 (motorAt t d .drive .going ∷ [])
+unfolding changed
+released-bytes t o d s bytes h q =
+    rw (off-order o d q)
+    (head-record (motorsFreed t (Pause 0)) _ (freed-length t (Pause 0) (sound-length t s)) d ∙ motors-record t released d (sound-length t s) h ∙ written)
+  where
+    written : recordOf (released (motorAt t d)) ≡ put (recordAt t d) 32 (motorAt t d .drive .going ∷ [])
+    written = rw (released-as (motorAt t d), ← way-written (motorAt t d), written-back t d s bytes h)
+
+let-go : (t line reply : List ℕ) (o : Order) (d : ℕ) → AllBytes t → d ≤ 15 → orderOf line ≡ Is o → deedOf d o ≡ pauses 0
+    → commandCall t line reply .result % 256 ≡ 0 → recordAt (commandCall t line reply .table) d ≡ put (recordAt t d) 32 (motorAt t d .drive .going ∷ [])
+unfolding obeyed
+let-go t line reply o d bytes h e q =
+    let after = put (recordAt t d) 32 (motorAt t d .drive .going ∷ []) in
+    let done : soundTable t ≡ true → recordAt (obeyedTable t (orderOf line)) d ≡ after = λ s. rw e (released-bytes t o d s bytes h q) in
+    command-ways (λ a. a .result % 256 ≡ 0 → recordAt (a .table) d ≡ after) t line reply (λ n i z. absurd (i .0 (omega (arith, z, i .2))))
+    (λ s v r z. absurd (false≢true (rw (sym (refused-number t v reply) ∙ z) at r))) (λ s p f z. rw f at (done s))
+
 -- A tick leaves that of a motor that does not move.
 unticked : (t p : List ℕ) (d : ℕ) → AllBytes t → d ≤ 15 → moving (motorAt t d) ≡ false → recordAt (tickCall t p .table) d ≡ recordAt t d
 unticked t p d bytes h stands =
@@ -198,6 +249,7 @@ neighbours = record {
   unreached = unreached;
   stopped = still;
   pausing = unreleased;
+  releasing = let-go;
   unticked = unticked;
   readings = λ t c n d ne.
       reading-ways (λ a. recordAt (a .table) d ≡ recordAt t d) t c n (λ k i. refl) (λ s h. record-kept t c _ (sound-length t s) h d ne);

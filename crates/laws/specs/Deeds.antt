@@ -1,4 +1,4 @@
--- What demand 2 makes of a call, by document 01's rules alone: which calls are accepted, and what an accepted one is to a
+-- What demand 2 makes of a call, by the documents' rules alone: which calls are accepted, and what an accepted one is to a
 -- channel. The table is a sound one, as it is after every sequence.
 use Prim.Native.Nat.{ℕ}
 use mathlib.Core.List.{List}
@@ -63,7 +63,7 @@ pub data Deed : Type 0 where
   ticks : Deed
   -- 02 §3: PAUSE ON, 1, or PAUSE OFF, 0: what it makes of pause
   pauses : ℕ → Deed
-  -- a refused call, one of another channel, a read, or one of the head: it is nothing to the channel
+  -- a refused call, one of another channel, a read, or one of the head but for the lines of pause: it is nothing to the channel
   rests : Deed
 
 -- a deed where a test holds

@@ -41,8 +41,8 @@ against going n = cond (eqb going cw) (ccwPulses n) (cwPulses n)
 pub record Account : Type 0 where
   -- it lasts
   pub lasts : Bool
-  -- its ticks count: they add their speed and give pulses. 02 §3: those of a held drive do not, from an accepted start under pause
-  -- until an accepted PAUSE OFF
+  -- its ticks count: they add their speed and give pulses. 02 §3: a held channel "gets no pulses, and in demand 3 its ticks add no
+  -- speed", from an accepted start under pause until an accepted PAUSE OFF
   pub counting : Bool
   -- pause is on: after an accepted PAUSE ON, until an accepted PAUSE OFF
   pub paused : Bool

@@ -1,10 +1,10 @@
 -- Demand 2, what a call leaves byte for byte.
 use mathlib.Core.Path.{_≡_}
-use mathlib.Core.List.{List}
+use mathlib.Core.List.{List, [], _∷_}
 use mathlib.Core.Bool.{Bool, true, false, _&&_}
 use lib.Dec.{eqb}
 use Prim.Native.Nat.{ℕ, _%_, _≤_}
-use Rattle.digits.specs.Bytes.{AllBytes, part}
+use Rattle.digits.specs.Bytes.{AllBytes, part, put}
 use Rattle.motor.specs.Sound.{busy, moving}
 use Rattle.line.specs.declared.Order.{Order}
 use Rattle.line.specs.declared.Order.the-variants.{Go, Stop, StopAll, ChangeSpeed, Set, Ask, AskHead, ForHead}
@@ -41,6 +41,9 @@ pub record Neighbours (l : Library) : Type 0 where
   -- PAUSE ON leaves all sixteen, and PAUSE OFF those that are not held
   pub pausing : (t line reply : List ℕ) (o : Order) (k d : ℕ) → AllBytes t → d ≤ 15 → orderOf line ≡ Is o → deedOf d o ≡ pauses k
       → (eqb k 0 && motorAt t d .drive .held) ≡ false → recordAt (l .command t line reply .table) d ≡ recordAt t d
+  -- and an accepted PAUSE OFF changes of every record byte 32 alone: what it tells then is the direction
+  pub releasing : (t line reply : List ℕ) (o : Order) (d : ℕ) → AllBytes t → d ≤ 15 → orderOf line ≡ Is o → deedOf d o ≡ pauses 0
+      → l .command t line reply .result % 256 ≡ 0 → recordAt (l .command t line reply .table) d ≡ put (recordAt t d) 32 (motorAt t d .drive .going ∷ [])
   -- a tick leaves that of a motor that does not move: one that stands, or is held
   pub unticked : (t p : List ℕ) (d : ℕ) → AllBytes t → d ≤ 15 → moving (motorAt t d) ≡ false → recordAt (l .tick t p .table) d ≡ recordAt t d
   -- a switch reading leaves every record but its channel's

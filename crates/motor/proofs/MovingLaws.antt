@@ -1,4 +1,4 @@
--- Which motors move. Nothing above opens `moving` but what computes. Assumes nothing.
+-- Which motors move. Nothing above opens `moving` but what computes, and what a release leaves. Assumes nothing.
 use mathlib.Core.Path.{_≡_, refl}
 use mathlib.Core.Bool.{true, false, not}
 use Prim.Native.Nat.{ℕ}
@@ -6,7 +6,7 @@ use Rattle.record.specs.declared.Motor.{Motor}
 use Rattle.record.specs.Record.{withPlace, withDrive, withFraction, withSpeedInForce}
 use borrow.Author.Tests.{not-true}
 use Rattle.motor.specs.Sound.{busy, moving}
-use Rattle.motor.proofs.SoundLaws.{and-l, and-r, and-false}
+use Rattle.motor.proofs.SoundLaws.{and-l, and-r}
 
 -- What moves is busy, and what is not busy does not move.
 pub moving-busy : (m : Motor) → moving m ≡ true → busy m ≡ true
@@ -31,7 +31,7 @@ pub carried-moves : (m : Motor) (p e n : ℕ) → moving (withDrive (withPlace m
 unfolding moving
 carried-moves m p e n = refl
 
--- What is busy moves unless it is held, and what is held does not move.
+-- What is busy moves unless it is held, and what moves is not held.
 pub busy-moves : (m : Motor) → busy m ≡ true → moving m ≡ not (m .drive .held)
 unfolding moving
 busy-moves m e = rw e
@@ -39,7 +39,3 @@ busy-moves m e = rw e
 pub moving-free : (m : Motor) → moving m ≡ true → m .drive .held ≡ false
 unfolding moving
 moving-free m e = not-true _ (and-r (busy m) _ e)
-
-pub held-still : (m : Motor) → m .drive .held ≡ true → moving m ≡ false
-unfolding moving
-held-still m e = rw (e) (and-false (busy m))

@@ -78,11 +78,12 @@ underWay m =
     eqb (m .ended) 0 && eqb (m .setup .a) 1 && eqb (m .wiring .read) 1 && isSpeed (m .drive .speed)
     && (leb 1 (room (m .drive .going) m) && not (blocked (m .drive .going) m) && aimRight m)
 
--- "0 stopped": a motor is busy when it is not stopped
+-- byte 32 is 1 to 4: a motor is busy when it is not "0 stopped"; 02 §3: "A held channel counts as driving for busy, stops and switch
+-- readings"
 abbrev pub busy : Motor → Bool
 busy m = not (eqb (m .drive .going) 0)
 
--- it moves, "1 CW, 2 CCW": it gets pulses; 02 §3: a held channel "gets no pulses"
+-- byte 32 is 1 or 2: it moves, "1 CW, 2 CCW", and gets pulses; 02 §3: a held channel "gets no pulses"
 unfoldable pub moving : Motor → Bool
 moving m = busy m && not (m .drive .held)
 

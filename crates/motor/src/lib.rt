@@ -288,7 +288,7 @@ pub fn is_moving(m: Motor) -> bool
     if m.drive.held { false } else { is_busy(m) }
 }
 
-// Whether the drive of a motor is sound, whatever its settings are.
+// Whether the drive of a motor is sound, whether its settings are in range or not.
 fn drive_sound(m: Motor) -> bool
     ensures { λ r. ⌜ r ≡ driveSound m ⌝ }
 {

@@ -1,6 +1,6 @@
 -- What is written into the record of a motor is the record of the motor changed, field by field. Assumes nothing.
 use mathlib.Core.Path.{_≡_, refl, _∙_}
-use mathlib.Core.List.{List}
+use mathlib.Core.List.{List, [], _∷_}
 use mathlib.Core.Bool.{Bool, true, false, cond}
 use Prim.Native.Nat.{ℕ}
 use native.Mathlib.Omega.{arith}
@@ -11,14 +11,14 @@ use Rattle.digits.specs.Words.{wordBytes}
 use Rattle.digits.proofs.PutLaws.{put-length}
 use Rattle.record.specs.declared.Drive.{Drive}
 use Rattle.record.specs.declared.Motor.{Motor}
-use Rattle.record.specs.Record.{placeBytes, settingBytes, recordOf, withPlace, withDrive, withFraction, standing}
+use Rattle.record.specs.Record.{placeBytes, settingBytes, recordOf, withPlace, withDrive, withFraction, letGo, standing}
 use Rattle.record.specs.Progress.{flagsAndDrive, progressed}
 
 -- the motor with another fraction carried
 abbrev pub carrying : Motor → ℕ → Motor
 carrying m n = withDrive m (m .ended) (withFraction (m .drive) n)
 
--- The position, the end flags with the drive, and the fraction, each written by itself.
+-- The position, the end flags with the drive, the direction of a drive that is held no more, and the fraction, each written by itself.
 pub place-written : (m : Motor) (p : ℕ) → put (recordOf m) 0 (placeBytes p) ≡ recordOf (withPlace m p)
 unfolding put recordOf settingBytes joined wordBytes
 place-written m p = refl
@@ -26,6 +26,10 @@ place-written m p = refl
 pub drive-written : (m : Motor) (ended : ℕ) (d : Drive) → put (recordOf m) 31 (flagsAndDrive ended d) ≡ recordOf (withDrive m ended d)
 unfolding put recordOf settingBytes joined wordBytes
 drive-written m ended d = refl
+
+pub way-written : (m : Motor) → put (recordOf m) 32 (m .drive .going ∷ []) ≡ recordOf (withDrive m (m .ended) (letGo (m .drive)))
+unfolding put recordOf settingBytes joined wordBytes
+way-written m = refl
 
 pub fraction-written : (m : Motor) (n : ℕ) → put (recordOf m) 34 (wordBytes 2 n) ≡ recordOf (carrying m n)
 unfolding put recordOf settingBytes joined wordBytes

@@ -3,7 +3,6 @@
 use digits::is_set;
 use drive::Verdict;
 use drive::numbers::number_of;
-ghost use mathlib.Core.Path.{_≡_};
 ghost use mathlib.Core.Bool.{cond};
 ghost use Prim.Native.Nat.{_≤_};
 ghost use lib.ListN.{length};

@@ -27,7 +27,7 @@ switchBits w = cond (unread w) 0 (flagIf (active 0 w) 1 + flagIf (active 1 w) 2 
 unfoldable pub statusV : Motor → ℕ
 statusV m = switchBits (m .wiring) + flagIf (not (busy m) && eqb (m .setup .b) 0) 8
 
--- "HH: the end flags, or 03 while driving (000)"; 02 §3: of a held drive 01
+-- "HH: the end flags, or 03 while driving (000)"; 02 §3: of a held drive "HH 01"
 unfoldable pub statusHH : Motor → ℕ
 statusHH m = cond (moving m) 3 (cond (busy m) 1 (m .ended))
 

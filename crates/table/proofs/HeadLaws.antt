@@ -1,5 +1,5 @@
 -- The head by value: what is there after it is written, what a write of it leaves, and what leaves it. Only `same-head`,
--- `head-back` and the parts of its range know its fields. Assumes nothing.
+-- `head-back` and the parts of its range know its fields, and what keeps a table sound knows pause. Assumes nothing.
 use mathlib.Core.Path.{_≡_, _∙_}
 use mathlib.Core.List.{List}
 use mathlib.Core.Bool.{true}
