@@ -1,5 +1,5 @@
 -- The bytes that a call leaves as they were, for every table and all inputs. Assumes nothing.
-use mathlib.Core.Path.{_≡_, refl, sym, ap, _∙_}
+use mathlib.Core.Path.{_≡_, refl, sym, _∙_}
 use mathlib.Core.List.{List, [], _∷_, append-nil, flatMap}
 use mathlib.Core.Bool.{Bool, true, false, _&&_, cond, false≢true}
 use Prim.Native.Nat.{ℕ, _+_, _%_, _≤_}
@@ -131,35 +131,25 @@ unreleased t line reply o k d bytes h e q free =
     command-left t line reply o d e
     (λ s. rw q (λ off. (h, rw (released-free (motorAt t d) (rw off at free)) (written-back t d s bytes h))))
 
--- What is PAUSE OFF to some channel is PAUSE OFF.
-abbrev isPause : Deed → Bool
-isPause (starts s) = false
-isPause (stops flags) = false
-isPause (speeds v) = false
-isPause (sets s) = false
-isPause (reads n) = false
-isPause ticks = false
-isPause (pauses k) = eqb k 0
-isPause rests = false
-
-no-pause : (b : Bool) (d : Deed) → isPause d ≡ false → deedIf b d ≡ pauses 0 → ⊥
-no-pause true d e h = false≢true (sym e ∙ ap isPause h)
-no-pause false d e h = false≢true (ap isPause h)
+-- What is PAUSE OFF to some channel is PAUSE OFF: an order that names a channel is another deed to it, and none to the others.
+off-named : (o : Order) (b : Bool) (k : Deed) → (k ≡ pauses 0 → o ≡ ForHead (Pause 0)) → deedIf b k ≡ pauses 0 → o ≡ ForHead (Pause 0)
+off-named o true k other q = other q
+off-named o false k other q = cc
 
 off-order : (o : Order) (d : ℕ) → deedOf d o ≡ pauses 0 → o ≡ ForHead (Pause 0)
 unfolding deedOf
-off-order (Go x s) d q = absurd (no-pause (eqb x d) (starts s) refl q)
-off-order (Stop x f) d q = absurd (no-pause (eqb x d) (stops f) refl q)
-off-order (StopAll f) d q = absurd (no-pause true (stops f) refl q)
-off-order (ChangeSpeed x v) d q = absurd (no-pause (eqb x d) (speeds v) refl q)
-off-order (Set x s) d q = absurd (no-pause (eqb x d) (sets s) refl q)
-off-order (Ask x a) d q = absurd (no-pause false rests refl q)
-off-order (AskHead a) d q = absurd (no-pause false rests refl q)
-off-order (ForHead (Mode k)) d q = absurd (no-pause false rests refl q)
-off-order (ForHead (AllReply k)) d q = absurd (no-pause false rests refl q)
-off-order (ForHead ClearErrors) d q = absurd (no-pause false rests refl q)
-off-order (ForHead (ClearError e)) d q = absurd (no-pause false rests refl q)
-off-order (ForHead (Pause k)) d q = rw (eqb-true k 0 (ap isPause q))
+off-order (Go x s) d q = off-named (Go x s) (eqb x d) (starts s) (λ e. cc) q
+off-order (Stop x f) d q = off-named (Stop x f) (eqb x d) (stops f) (λ e. cc) q
+off-order (StopAll f) d q = cc
+off-order (ChangeSpeed x v) d q = off-named (ChangeSpeed x v) (eqb x d) (speeds v) (λ e. cc) q
+off-order (Set x s) d q = off-named (Set x s) (eqb x d) (sets s) (λ e. cc) q
+off-order (Ask x a) d q = cc
+off-order (AskHead a) d q = cc
+off-order (ForHead (Mode k)) d q = cc
+off-order (ForHead (AllReply k)) d q = cc
+off-order (ForHead ClearErrors) d q = cc
+off-order (ForHead (ClearError e)) d q = cc
+off-order (ForHead (Pause k)) d q = cc
 
 -- It changes of a record byte 32 alone.
 released-bytes : (t : List ℕ) (o : Order) (d : ℕ) → soundTable t ≡ true → AllBytes t → d ≤ 15 → deedOf d o ≡ pauses 0
