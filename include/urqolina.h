@@ -64,6 +64,7 @@ extern "C" {
  * A held channel has the status S with HH 01 (STS0? is R0S001+0000000), is answered 2 to starts and settings, takes SPC for
  * its coming speed, and ends by a stop or by the switch of its direction as a driving one does. Pause and held drives last
  * through LOC, where PAUSE OFF is 4: a host that goes to local mode stops what it has held, or comes back to release it.
+ * They are in the table too: one that is kept and restored holds what it held until PAUSE OFF or its end. PAUSE? tells.
  */
 
 /* The sizes of the buffers, in bytes. */
