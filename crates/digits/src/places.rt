@@ -3,6 +3,7 @@
 use crate::choose;
 use crate::less;
 ghost use mathlib.Core.Path.{_≡_};
+ghost use lib.Dec.{leb};
 ghost use Rattle.digits.specs.Places.{isPosition, placeOf, wordOf, moved, ahead, countOf};
 
 // The directions of a drive.
@@ -43,6 +44,13 @@ pub fn pulses_ahead(going: u8, p: u32, q: u32) -> u32
     ensures { λ r. ⌜ r ≡ ahead going p q ⌝ }
 {
     choose(going == CW, less(q, p), less(p, q))
+}
+
+// Whether q lies ahead of p in a direction.
+pub fn lies_ahead(going: u8, p: u32, q: u32) -> bool
+    ensures { λ r. ⌜ r ≡ leb 1 (ahead going p q) ⌝ }
+{
+    if going == CW { p < q } else { q < p }
 }
 
 // The place n pulses on from p in a direction. It may lie past the positions' range, which a u64 holds.

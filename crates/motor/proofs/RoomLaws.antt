@@ -1,15 +1,16 @@
 -- Laws of places and rooms, each said once over the direction. Assumes nothing.
 use mathlib.Core.Path.{_≡_, refl}
-use mathlib.Core.Bool.{Bool, true, false, cond}
+use mathlib.Core.Bool.{Bool, true, false, _&&_, _||_, not, cond}
 use Prim.Native.Nat.{ℕ, _+_, _-_, _≤_, _<_, min, max}
 use native.Mathlib.Omega.{arith}
-use lib.Dec.{eqb}
+use lib.Dec.{eqb, leb}
+use borrow.Author.Tests.{leb-true, leb-false, le-leb, lt-leb}
 use Rattle.digits.specs.Places.{lowest, highest, isPosition, moved, ahead, cw}
 use Rattle.record.specs.declared.Motor.{Motor}
 use Rattle.record.specs.Record.{withPlace}
 use Rattle.motor.specs.Switches.{digital, edge, room}
 use Rattle.motor.specs.Sound.{limitsInRange}
-use Rattle.motor.proofs.SoundLaws.{and-l, and-r, InRange, position-bounds, bounds-position}
+use Rattle.motor.proofs.SoundLaws.{and-l, and-r, and-true, or-true, or-false, InRange, position-bounds, bounds-position}
 
 -- No pulse leaves a motor where it is, and a pulses and then b are a + b.
 pub moved-none : (going p : ℕ) → moved going p 0 ≡ p
@@ -47,6 +48,40 @@ pub room-moved :
     (going : ℕ) (m : Motor) (n : ℕ) → room going (withPlace m (moved going (m .place) n)) ≡ room going m - n
 unfolding room edge
 room-moved going m n = ahead-moved going (m .place) (edge going m) n
+
+-- The smaller of two numbers is 1 or more where both are.
+both : (a b n : ℕ) → n ≡ min a b → leb 1 n ≡ (leb 1 a && leb 1 b)
+both a b n e = go (leb 1 a) refl (leb 1 b) refl
+  where
+    go : (t : Bool) → leb 1 a ≡ t → (u : Bool) → leb 1 b ≡ u → leb 1 n ≡ (t && u)
+    go true p true q = le-leb 1 n (omega (arith, e, leb-true 1 a p, leb-true 1 b q))
+    go true p false q = lt-leb 1 n (omega (arith, e, leb-false 1 b q))
+    go false p u q = lt-leb 1 n (omega (arith, e, leb-false 1 a p))
+
+-- A motor has a pulse of room where the end of the range lies ahead and, if D = 1, the digital limit.
+pub room-ahead : (going : ℕ) (m : Motor)
+    → leb 1 (room going m)
+    ≡ (leb 1 (ahead going (m .place) (cond (eqb going cw) highest lowest))
+    && (leb 1 (ahead going (m .place) (cond (eqb going cw) (m .limits .cw) (m .limits .ccw))) || not (digital (m .wiring))))
+unfolding room edge
+room-ahead going m = go (eqb going cw) (digital (m .wiring))
+  where
+    p : ℕ
+    p = m .place
+
+    x : ℕ
+    x = m .limits .cw
+
+    y : ℕ
+    y = m .limits .ccw
+
+    go : (t d : Bool)
+        → leb 1 (cond t (cond t (cond d (min highest x) highest) (cond d (max lowest y) lowest) - p) (p - cond t (cond d (min highest x) highest) (cond d (max lowest y) lowest)))
+        ≡ (leb 1 (cond t (cond t highest lowest - p) (p - cond t highest lowest)) && (leb 1 (cond t (cond t x y - p) (p - cond t x y)) || not d))
+    go true true = rw (or-false (leb 1 (x - p))) (both (highest - p) (x - p) (min highest x - p) (omega arith))
+    go true false = rw (or-true (leb 1 (x - p)), and-true (leb 1 (highest - p)))
+    go false true = rw (or-false (leb 1 (p - y))) (both (p - lowest) (p - y) (p - max lowest y) (omega arith))
+    go false false = rw (or-true (leb 1 (p - y)), and-true (leb 1 (p - lowest)))
 
 -- The edge of a motor with its fields in range is a position.
 either-position : (t : Bool) (p q : ℕ) → isPosition p ≡ true → isPosition q ≡ true → isPosition (cond t p q) ≡ true

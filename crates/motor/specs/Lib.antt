@@ -1,3 +1,4 @@
 pub mod Switches
 pub mod Sound
+pub mod Judging
 pub mod Computing

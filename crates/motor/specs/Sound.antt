@@ -87,10 +87,6 @@ busy m = not (eqb (m .drive .going) 0)
 unfoldable pub moving : Motor → Bool
 moving m = busy m && not (m .drive .held)
 
--- what soundness asks of the drive, for the code, which judges it apart from the settings; nobody need believe it
-abbrev pub driveSound : Motor → Bool
-driveSound m = driveInRange (m .drive) && cond (busy m) (underWay m) (atRest (m .drive))
-
 -- a motor is sound: its fields are in range, and it keeps the rules for a stopped or for a driving record
 unfoldable pub soundMotor : Motor → Bool
 soundMotor m = inRange m && cond (busy m) (underWay m) (atRest (m .drive))

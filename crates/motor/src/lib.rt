@@ -3,21 +3,28 @@
 use digits::choose;
 use digits::is_set;
 use digits::larger;
+use digits::places::CCW;
 use digits::places::CW;
 use digits::places::HIGHEST;
 use digits::places::LOWEST;
 use digits::places::ORIGIN;
 use digits::places::is_position;
+use digits::places::lies_ahead;
 use digits::places::pulses_ahead;
 use digits::smaller;
 use digits::words::byte_at;
 use digits::words::long_at;
 use digits::words::wide_at;
 use record::Drive;
+use record::Limits;
 use record::Motor;
 use record::Setup;
 use record::Speeds;
 use record::Wiring;
+use record::goes_cw;
+use record::place_at;
+use record::read_drive;
+use record::read_limits;
 use record::read_motor;
 ghost use mathlib.Core.Path.{_≡_};
 ghost use mathlib.Core.Bool.{_&&_, _||_, not, cond};
@@ -27,12 +34,12 @@ ghost use lib.Bits.{bitAnd};
 ghost use lib.ListN.{length};
 ghost use Rattle.digits.specs.Bytes.{part, allZero};
 ghost use Rattle.digits.specs.Words.{word};
-ghost use Rattle.digits.specs.Places.{origin, isPosition, ahead};
-ghost use Rattle.record.specs.Record.{motorOf, restZero};
+ghost use Rattle.digits.specs.Places.{cw, lowest, highest, isPosition};
+ghost use Rattle.record.specs.Record.{motorOf};
 ghost use Rattle.motor.specs.Switches.{switchOf, unread, active, blocked, edge, room};
-ghost use Rattle.motor.specs.Sound.{isSpeed, limitsInRange, wiringInRange, contactsRight, setupInRange, settingsInRange};
-ghost use Rattle.motor.specs.Sound.{endFlagsInRange, driveInRange, atRest, underWay};
-ghost use Rattle.motor.specs.Sound.{busy, moving, driveSound, soundMotor, heldRight, soundUnder};
+ghost use Rattle.motor.specs.Sound.{isSpeed, limitsInRange, wiringInRange, setupInRange, settingsInRange, endFlagsInRange};
+ghost use Rattle.motor.specs.Sound.{busy, moving, soundUnder};
+ghost use Rattle.motor.specs.Judging.{fieldsRight, clearWay, aimed, free, drivesRight, wayAllowed, drivingJudged, told, standingJudged};
 
 // The switch that a direction runs into, by its bit: 0 CW, 1 CCW.
 fn switch_of(going: u8) -> u8
@@ -90,16 +97,24 @@ pub fn is_speed(v: u32) -> bool
     (1 <= v) & (v <= 5000000)
 }
 
+// Whether the digital limits are positions.
+fn limits_in_range(l: Limits) -> bool
+    ensures { λ r. ⌜ r ≡ limitsInRange l ⌝ }
+{
+    if is_position(l.cw) {
+        is_position(l.ccw)
+    } else {
+        false
+    }
+}
+
 // Whether the position and the digital limits are positions.
 fn places_in_range(m: Motor) -> bool
     ensures { λ r. ⌜ r ≡ (isPosition (m .place) && limitsInRange (m .limits)) ⌝ }
 {
+    let limits = m.limits;
     if is_position(m.place) {
-        if is_position(m.limits.cw) {
-            is_position(m.limits.ccw)
-        } else {
-            false
-        }
+        limits_in_range(limits)
     } else {
         false
     }
@@ -170,104 +185,131 @@ fn bytes_in_range(b: &[u8], m: Motor) -> bool
     }
 }
 
+// Whether the speeds and the fields of one byte are in their ranges, bytes 12 to 31.
+fn fields_in_range(b: &[u8]) -> bool
+    requires { ⌜ length (now b) ≡ 64 ⌝ }
+    ensures { λ r. ⌜ r ≡ fieldsRight (motorOf (now (b .entry))) ⌝ }
+{
+    let m = read_motor(b);
+    let speeds = m.speeds;
+    if are_speeds(speeds) {
+        bytes_in_range(b, m)
+    } else {
+        false
+    }
+}
+
 // Whether the position, the settings and the end flags are in their ranges, bytes 0 to 31.
 fn settings_in_range(b: &[u8]) -> bool
     requires { ⌜ length (now b) ≡ 64 ⌝ }
     ensures { λ r. ⌜ r ≡ (settingsInRange (motorOf (now (b .entry))) && endFlagsInRange (motorOf (now (b .entry)) .ended)) ⌝ }
 {
-    let m = read_motor(b);
-    let speeds = m.speeds;
-    if places_in_range(m) {
-        if are_speeds(speeds) {
-            bytes_in_range(b, m)
+    if places_in_range(read_motor(b)) {
+        fields_in_range(b)
+    } else {
+        false
+    }
+}
+
+// The end of the range in a direction, and the digital limit that the direction looks at.
+fn end_of(going: u8) -> u32
+    ensures { λ r. ⌜ r ≡ cond (eqb going cw) highest lowest ⌝ }
+{
+    if going == CW { HIGHEST } else { LOWEST }
+}
+
+fn limit_of(going: u8, l: Limits) -> u32
+    ensures { λ r. ⌜ r ≡ cond (eqb going cw) (l .cw) (l .ccw) ⌝ }
+{
+    if going == CW { l.cw } else { l.ccw }
+}
+
+// Whether a motor has a pulse of room in a direction: the end of the range lies ahead, and the digital limit too unless D = 0.
+fn has_room(going: u8, m: Motor) -> bool
+    ensures { λ r. ⌜ r ≡ leb 1 (room going m) ⌝ }
+{
+    let limits = m.limits;
+    if lies_ahead(going, m.place, end_of(going)) {
+        if lies_ahead(going, m.place, limit_of(going, limits)) {
+            true
         } else {
-            false
+            !is_set(7, m.wiring.setls)
         }
     } else {
         false
     }
 }
 
-// Whether the contacts are read, as most are, or unknown and 0.
-fn contacts_right(w: Wiring) -> bool
-    ensures { λ r. ⌜ r ≡ contactsRight w ⌝ }
+// Whether a motor has room and no active enabled switch in a direction.
+fn is_clear(going: u8, m: Motor) -> bool
+    ensures { λ r. ⌜ r ≡ clearWay going m ⌝ }
 {
-    if w.read == 1 {
-        true
-    } else if is_unread(w) {
-        w.contacts == 0
+    if has_room(going, m) {
+        !is_blocked(going, m)
     } else {
         false
     }
 }
 
-// Whether all of a motor but its drive is sound: what stands in bytes 0 to 31, and the contacts.
-fn settings_sound(b: &[u8]) -> bool
+// Whether a drive from a place has a target strictly ahead, or is a scan and has none.
+fn aim_right(going: u8, p: u32, d: Drive) -> bool
+    ensures { λ r. ⌜ r ≡ aimed going p d ⌝ }
+{
+    if d.kind == 1 {
+        if is_position(d.target) {
+            lies_ahead(going, p, d.target)
+        } else {
+            false
+        }
+    } else if d.kind == 0 {
+        d.target == ORIGIN
+    } else {
+        false
+    }
+}
+
+// Whether the limits of a record are positions, and its way in a direction is clear. This and what follows read of the record what
+// they ask for, where they ask: of a motor that is read before, the machine code keeps every field at hand, on the stack.
+fn has_way(going: u8, b: &[u8]) -> bool
     requires { ⌜ length (now b) ≡ 64 ⌝ }
-    ensures { λ r. ⌜ r ≡ (settingsInRange (motorOf (now (b .entry))) && endFlagsInRange (motorOf (now (b .entry)) .ended) && contactsRight (motorOf (now (b .entry)) .wiring)) ⌝ }
+    ensures { λ r. ⌜ r ≡ (limitsInRange (motorOf (now (b .entry)) .limits) && clearWay going (motorOf (now (b .entry)))) ⌝ }
 {
-    let m = read_motor(b);
-    if contacts_right(m.wiring) {
-        settings_in_range(b)
+    if limits_in_range(read_limits(b)) {
+        is_clear(going, read_motor(b))
     } else {
         false
     }
 }
 
-fn drive_in_range(d: Drive) -> bool
-    ensures { λ r. ⌜ r ≡ driveInRange d ⌝ }
+// Whether a record is free to drive on in a direction: its position is one, its aim is right, and it has a way.
+fn is_free(going: u8, b: &[u8]) -> bool
+    requires { ⌜ length (now b) ≡ 64 ⌝ }
+    ensures { λ r. ⌜ r ≡ free going (motorOf (now (b .entry))) ⌝ }
 {
-    if (d.going <= 2) & (d.kind <= 1) {
-        (d.fraction <= 999) & is_position(d.target)
-    } else {
-        false
-    }
-}
-
-// Whether the drive of a stopped motor is none.
-fn at_rest(d: Drive) -> bool
-    ensures { λ r. ⌜ r ≡ atRest d ⌝ }
-{
-    !d.held & (d.kind == 0) & (d.fraction == 0) & (d.speed == 0) & (d.target == ORIGIN)
-}
-
-// Whether a target lies strictly ahead in a direction, or a scan has none.
-fn aim_right(going: u8, m: Motor) -> bool
-    ensures { λ r. ⌜ r ≡ cond (eqb (m .drive .kind) 1) (leb 1 (ahead going (m .place) (m .drive .target))) (eqb (m .drive .target) origin) ⌝ }
-{
-    if m.drive.kind == 1 {
-        1 <= pulses_ahead(going, m.place, m.drive.target)
-    } else {
-        m.drive.target == ORIGIN
-    }
-}
-
-// Whether a motor has room, no active enabled switch ahead and a right aim in a direction.
-fn is_free(going: u8, m: Motor) -> bool
-    ensures { λ r. ⌜ r ≡ (leb 1 (room going m) && not (blocked going m) && cond (eqb (m .drive .kind) 1) (leb 1 (ahead going (m .place) (m .drive .target))) (eqb (m .drive .target) origin)) ⌝ }
-{
-    if 1 <= room_of(going, m) {
-        if is_blocked(going, m) {
-            false
+    let p = place_at(b, 0);
+    if is_position(p) {
+        if aim_right(going, p, read_drive(b)) {
+            has_way(going, b)
         } else {
-            aim_right(going, m)
+            false
         }
     } else {
         false
     }
 }
 
-// Whether a driving motor keeps the rules for one. CW has a branch of its own, so that the machine code asks for the direction
-// once and not at every rule.
-fn under_way(m: Motor) -> bool
-    ensures { λ r. ⌜ r ≡ underWay m ⌝ }
+// Whether a driving record keeps the rules for one, its settings and its contacts aside. Each direction has a branch of its own, so
+// that the machine code asks for it once and not at every rule.
+fn under_way(b: &[u8]) -> bool
+    requires { ⌜ length (now b) ≡ 64 ⌝ }
+    ensures { λ r. ⌜ r ≡ drivesRight (motorOf (now (b .entry))) ⌝ }
 {
-    let going = m.drive.going;
-    if (m.ended == 0) & (m.setup.a == 1) & (m.wiring.read == 1) & is_speed(m.drive.speed) {
-        if going == CW {
-            is_free(CW, m)
+    let d = read_drive(b);
+    if (byte_at(b, 31) == 0) & (byte_at(b, 27) == 1) & is_speed(d.speed) & (d.fraction <= 999) {
+        if goes_cw(b) {
+            is_free(CW, b)
         } else {
-            is_free(going, m)
+            is_free(CCW, b)
         }
     } else {
         false
@@ -288,61 +330,26 @@ pub fn is_moving(m: Motor) -> bool
     if m.drive.held { false } else { is_busy(m) }
 }
 
-// Whether the drive of a motor is sound, whether its settings are in range or not.
-fn drive_sound(m: Motor) -> bool
-    ensures { λ r. ⌜ r ≡ driveSound m ⌝ }
-{
-    let drive = m.drive;
-    if drive_in_range(drive) {
-        if is_busy(m) {
-            under_way(m)
-        } else {
-            at_rest(drive)
-        }
-    } else {
-        false
-    }
-}
-
 // Whether byte 32 is one that a sound table may hold: 3 and 4, held drives, under pause alone.
 fn way_right(paused: bool, n: u8) -> bool
-    ensures { λ r. ⌜ r ≡ (leb n 2 || (paused && leb n 4)) ⌝ }
+    ensures { λ r. ⌜ r ≡ wayAllowed paused n ⌝ }
 {
     (n as u32) <= choose(paused, 4, 2)
 }
 
-// Whether the drive of a record is sound in a table, where what is held is held under pause.
-fn drive_allowed(paused: bool, b: &[u8]) -> bool
+// Whether a record with a drive is sound in a table, its bytes from 48 on aside. Byte 44 is 1, and 45 to 47 are zero, just where
+// their word is 1.
+fn driving_sound(paused: bool, b: &[u8]) -> bool
     requires { ⌜ length (now b) ≡ 64 ⌝ }
-    ensures { λ r. ⌜ r ≡ (driveSound (motorOf (now (b .entry))) && heldRight paused (motorOf (now (b .entry)))) ⌝ }
+    ensures { λ r. ⌜ r ≡ drivingJudged paused (now (b .entry)) ⌝ }
 {
-    if way_right(paused, byte_at(b, 32)) {
-        drive_sound(read_motor(b))
-    } else {
-        false
-    }
-}
-
-// Whether the bytes of the drive, 32 to 43, are zero.
-fn drive_zero(b: &[u8]) -> bool
-    requires { ⌜ length (now b) ≡ 64 ⌝ }
-    ensures { λ r. ⌜ r ≡ allZero (part (now (b .entry)) 32 12) ⌝ }
-{
-    if wide_at(b, 32) == 0 {
-        long_at(b, 40) == 0
-    } else {
-        false
-    }
-}
-
-// Whether the bytes that no topic has, 45 to 63, are zero: those of byte 44's word are where the word is a byte.
-fn rest_zero(b: &[u8]) -> bool
-    requires { ⌜ length (now b) ≡ 64 ⌝ }
-    ensures { λ r. ⌜ r ≡ restZero (now (b .entry)) ⌝ }
-{
-    if long_at(b, 44) <= 255 {
-        if wide_at(b, 48) == 0 {
-            wide_at(b, 56) == 0
+    if long_at(b, 44) == 1 {
+        if way_right(paused, byte_at(b, 32)) {
+            if under_way(b) {
+                fields_in_range(b)
+            } else {
+                false
+            }
         } else {
             false
         }
@@ -351,27 +358,62 @@ fn rest_zero(b: &[u8]) -> bool
     }
 }
 
-// Whether 64 bytes hold a motor that is sound in a table. Most motors stand, and so have no drive; then nothing of one is judged.
-fn motor_sound(paused: bool, b: &[u8]) -> bool
+// Bytes 40 to 47 of a record with no target whose contacts are read, as one number.
+const READ_AT_REST: u64 = 0x1_0000_0000;
+
+// Whether a record has no target, and its contacts are read, as most are, or unknown and 0; 45 to 47 are zero with it.
+fn contacts_told(b: &[u8]) -> bool
     requires { ⌜ length (now b) ≡ 64 ⌝ }
-    ensures { λ r. ⌜ r ≡ (soundMotor (motorOf (now (b .entry))) && heldRight paused (motorOf (now (b .entry)))) ⌝ }
+    ensures { λ r. ⌜ r ≡ told (now (b .entry)) ⌝ }
 {
-    if drive_zero(b) {
-        settings_sound(b)
-    } else if drive_allowed(paused, b) {
-        settings_sound(b)
+    if wide_at(b, 40) == READ_AT_REST {
+        true
+    } else if byte_at(b, 26) == 0 {
+        wide_at(b, 40) == 0
     } else {
         false
     }
 }
 
-// Whether 64 bytes are a sound record of a table. The rest is the cheaper test, and so the first.
+// Whether a record without a drive is sound, its bytes from 48 on aside: all of 32 to 43 is zero.
+fn standing_sound(b: &[u8]) -> bool
+    requires { ⌜ length (now b) ≡ 64 ⌝ }
+    ensures { λ r. ⌜ r ≡ standingJudged (now (b .entry)) ⌝ }
+{
+    if wide_at(b, 32) == 0 {
+        if contacts_told(b) {
+            settings_in_range(b)
+        } else {
+            false
+        }
+    } else {
+        false
+    }
+}
+
+// Whether bytes 48 to 63, which no topic has, are zero.
+fn tail_zero(b: &[u8]) -> bool
+    requires { ⌜ length (now b) ≡ 64 ⌝ }
+    ensures { λ r. ⌜ r ≡ allZero (part (now (b .entry)) 48 16) ⌝ }
+{
+    if wide_at(b, 48) == 0 {
+        wide_at(b, 56) == 0
+    } else {
+        false
+    }
+}
+
+// Whether 64 bytes are a sound record of a table. Most motors stand, and so have no drive; then nothing of one is judged.
 fn sound_bytes(paused: bool, b: &[u8]) -> bool
     requires { ⌜ length (now b) ≡ 64 ⌝ }
     ensures { λ r. ⌜ r ≡ soundUnder paused (now (b .entry)) ⌝ }
 {
-    if rest_zero(b) {
-        motor_sound(paused, b)
+    if tail_zero(b) {
+        if byte_at(b, 32) == 0 {
+            standing_sound(b)
+        } else {
+            driving_sound(paused, b)
+        }
     } else {
         false
     }

@@ -18,6 +18,7 @@ ghost use Prim.Native.Nat.{_+_, _≤_};
 ghost use lib.Dec.{eqb};
 ghost use lib.ListN.{length};
 ghost use Rattle.digits.specs.Bytes.{put};
+ghost use Rattle.digits.specs.Places.{cw};
 ghost use Rattle.record.specs.Record.{byteAt, placeAt, limitsOf, speedsOf, wiringOf, setupOf, heldOf, goingOf, driveOf, motorOf};
 ghost use Rattle.record.specs.Record.{placeBytes, limitBytes, speedBytes, wiringBytes, setupBytes, settingBytes};
 ghost use Rattle.record.specs.Record.{goingByte, driveBytes, restBytes, recordOf, standing};
@@ -90,7 +91,7 @@ pub fn no_drive() -> Drive
 }
 
 // The place of the signed number in the four bytes from an offset on.
-fn place_at(b: &[u8], at: usize) -> u32
+pub fn place_at(b: &[u8], at: usize) -> u32
     requires { ⌜ at + 4 ≤ length (now b) ⌝ }
     ensures { λ r. ⌜ r ≡ placeAt (now (b .entry)) at ⌝ }
 {
@@ -98,7 +99,7 @@ fn place_at(b: &[u8], at: usize) -> u32
 }
 
 // The topics of a record, each from its own bytes.
-fn read_limits(b: &[u8]) -> Limits
+pub fn read_limits(b: &[u8]) -> Limits
     requires { ⌜ length (now b) ≡ 64 ⌝ }
     ensures { λ r. ⌜ r ≡ limitsOf (now (b .entry)) ⌝ }
 {
@@ -167,7 +168,7 @@ fn going_byte(d: Drive) -> u8
     }
 }
 
-fn read_drive(b: &[u8]) -> Drive
+pub fn read_drive(b: &[u8]) -> Drive
     requires { ⌜ length (now b) ≡ 64 ⌝ }
     ensures { λ r. ⌜ r ≡ driveOf (now (b .entry)) ⌝ }
 {
@@ -220,6 +221,15 @@ pub fn is_going(b: &[u8]) -> bool
 {
     let way = byte_at(b, 32);
     (way == 1) | (way == 2)
+}
+
+// Whether a record holds a drive CW, going or held, by its byte 32.
+pub fn goes_cw(b: &[u8]) -> bool
+    requires { ⌜ length (now b) ≡ 64 ⌝ }
+    ensures { λ r. ⌜ r ≡ eqb (driveOf (now (b .entry)) .going) cw ⌝ }
+{
+    let way = byte_at(b, 32);
+    (way == 1) | (way == 3)
 }
 
 // Writes the signed number of a place into the four bytes from an offset on.

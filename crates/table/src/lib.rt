@@ -129,16 +129,25 @@ fn sound_count(paused: bool, t: &[u8]) -> u8
     judged
 }
 
-// Whether bytes are a sound table: bytes of any number and any value are judged.
+// Whether 1,088 bytes are a sound table.
+fn sound_whole(t: &[u8]) -> bool
+    requires { ⌜ length (now t) ≡ tableSize ⌝ }
+    ensures { λ r. ⌜ r ≡ soundTable (now (t .entry)) ⌝ }
+{
+    if sound_head(t) {
+        sound_count(is_paused(read_head(t)), t) == 16
+    } else {
+        false
+    }
+}
+
+// Whether bytes are a sound table: bytes of any number and any value are judged. They are lent on as a part, all of them: the machine
+// code of a function that lends its own slice on wants that slice in its caller's memory, and here it comes in registers.
 pub fn sound_table(t: &[u8]) -> bool
     ensures { λ r. ⌜ r ≡ soundTable (now (t .entry)) ⌝ }
 {
     if t.len() == 1088 {
-        if sound_head(t) {
-            sound_count(is_paused(read_head(t)), t) == 16
-        } else {
-            false
-        }
+        sound_whole(&t[0..1088])
     } else {
         false
     }

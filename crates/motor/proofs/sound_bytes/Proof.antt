@@ -1,28 +1,41 @@
 -- `motor::sound_bytes` meets its contract. Assumes nothing.
-use borrow.Author.Tests.{eq-eqb}
-use Rattle.motor.specs.Sound.{soundMotor, soundRecord, soundUnder}
-use mathlib.Core.Bool.{_&&_}
-use lib.Dec.{eqb}
-use lib.ListN.{length}
-use Rattle.record.specs.Record.{motorOf}
-use Rattle.motor.proofs.SoundLaws.{and-true, and-false}
+use mathlib.Core.Path.{_≡_, sym, _∙_}
+use native.Mathlib.Omega.{arith}
+use Rattle.digits.specs.Bytes.{AllBytes}
+use Rattle.motor.proofs.JudgingLaws.{tail-judged, standing-judged, driving-judged}
 use borrow.Author.Needs.{needs}
 use Rattle.motor.proofs.sound_bytes.Statement.{statement}
 use Rattle.motor.proofs.sound_bytes.Tie as tie
 
-rest-zero-requires : tie.Need-rest-zero-requires
-rest-zero-requires c κs = search needs
+tail-zero-requires : tie.Need-tail-zero-requires
+tail-zero-requires c κs = search needs
 
-motor-sound-requires : tie.Need-motor-sound-requires
-motor-sound-requires c κs = search needs
+byte-at-requires : tie.Need-byte-at-requires
+byte-at-requires c κs = search needs
+
+standing-sound-requires : tie.Need-standing-sound-requires
+standing-sound-requires c κs = search needs
+
+driving-sound-requires : tie.Need-driving-sound-requires
+driving-sound-requires c κs = search needs
 
 returns : tie.Need-returns
-unfolding soundUnder soundRecord
-returns c = rw (c .motor-sound .ensures, eq-eqb _ _ (c .before .before .before .before .pre), ← c .before .before .rest-zero .ensures, c .before .if1 .taken, and-true (soundMotor (motorOf (c .before .before .before .before .args .b .now))))
+returns c =
+    let e = c .before .before .before .before .before .before in
+    let bytes : AllBytes (e .args .b .now) = λ k. omega (arith, c .before .before .before .before .before .shared-slice-known .given k) in
+    let tail = sym (c .before .before .before .before .tail-zero .ensures) ∙ c .before .before .before .if1 .taken in
+    c .standing-sound .ensures ∙ sym (standing-judged (e .args .paused) (e .args .b .now) (e .pre) bytes tail (sym (c .before .before .byte-at .ensures) ∙ c .before .if2 .taken))
 
 returns-2 : tie.Need-returns-2
-unfolding soundUnder soundRecord
-returns-2 c = let b = c .before .before .before .args .b .now in rw (← c .before .rest-zero .ensures, c .if1 .left, and-false (eqb (length b) 64 && soundMotor (motorOf b)))
+returns-2 c =
+    let e = c .before .before .before .before .before .before in
+    let tail = sym (c .before .before .before .before .tail-zero .ensures) ∙ c .before .before .before .if1 .taken in
+    c .driving-sound .ensures ∙ sym (driving-judged (e .args .paused) (e .args .b .now) (e .pre) tail (λ z. c .before .if2 .left (c .before .before .byte-at .ensures ∙ z)))
+
+returns-3 : tie.Need-returns-3
+returns-3 c =
+    let e = c .before .before .before in
+    sym (tail-judged (e .args .paused) (e .args .b .now) (e .pre) (sym (c .before .tail-zero .ensures) ∙ c .if1 .left))
 
 pub sound-bytes-spec : {M : Type 1} → statement M
-sound-bytes-spec = tie.close (tie.spec rest-zero-requires motor-sound-requires returns returns-2)
+sound-bytes-spec = tie.close (tie.spec tail-zero-requires byte-at-requires standing-sound-requires driving-sound-requires returns returns-2 returns-3)

@@ -1,0 +1,193 @@
+/*
+ * stack [MOST]: how many bytes of stack each of the four calls takes, in the library and in the model, by painting (sides.c). Ends
+ * with status 1 where one of the library's takes more than MOST, 512 if none is said: 02 §4, "The interrupt has 512 bytes to
+ * spare".
+ *
+ * The deepest counts of: a line of every form, and some of none, on each of the tables below; fresh, readings and a tick on each of
+ * them; the steps of the tour, wrong sizes among them; and drawn lines, readings and ticks on drawn tables, sound and damaged. A
+ * line with a form must be accepted on one of the tables and refused on another, so that no form is measured in one way alone.
+ */
+#include <stdbool.h>
+#include <stdio.h>
+#include <stdlib.h>
+#include <string.h>
+
+#include "draw.h"
+#include "model.h"
+#include "sides.h"
+
+enum { DRAWN = 5000, MOST = 512 };
+
+static const char *const call_names[CALLS] = {"fresh", "command", "reading", "tick"};
+
+/* The deepest of each kind of call on each side, and how many calls were made. */
+static uint32_t deepest[CALLS][NOTHING], made;
+
+static _Noreturn void stop(const char *what, const char *which)
+{
+    printf("stack: %s%s\n", what, which);
+    exit(2);
+}
+
+/* Measures the call in hand on both sides, which must agree, and gives its number. */
+static uint32_t measure(void)
+{
+    uint32_t results[NOTHING];
+    made++;
+    for (int side = 0; side < NOTHING; side++) {
+        uint32_t depth = stack_of(side);
+        uint32_t *most = &deepest[call.kind][side];
+        *most = depth > *most ? depth : *most;
+        results[side] = call.result;
+    }
+    if (results[LIBRARY] != results[MODEL])
+        stop("the library and the model differ in a ", call_names[call.kind]);
+    return URQOLINA_NUMBER(results[LIBRARY]);
+}
+
+static uint32_t measure_line(const uint8_t *line, size_t size)
+{
+    take_up(COMMAND, "", 0, 0);
+    call.line = line;
+    call.line_size = size;
+    return measure();
+}
+
+static uint32_t measure_reading(uint32_t channel, uint32_t contacts)
+{
+    take_up(READING, "", channel, contacts);
+    return measure();
+}
+
+static uint32_t measure_tick(void)
+{
+    take_up(TICK, "", 0, 0);
+    return measure();
+}
+
+/* The tables: fresh ones with these lines sent, and then as many channels started; damage is a byte that is made 1. */
+static const struct {
+    const char *before[3];
+    uint32_t driving, ticks, damage;
+} tables[] = {
+    {{NULL}, 0, 0, 0},
+    {{"REM", "ALL_REP EN"}, 0, 0, 0},
+    {{"REM", "SETLS011110000", "SETLSF11110000"}, 0, 0, 0},
+    {{"REM", "ALL_REP EN"}, 16, 1, 0},
+    {{"REM", "PAUSE ON", "ALL_REP EN"}, 16, 1, 0},
+    {{"REM"}, 16, 0, 4},
+    {{"REM"}, 16, 0, 1087},
+};
+
+static void make_table(size_t n)
+{
+    memset(start, 0, sizeof start);
+    model_fresh(start, URQOLINA_TABLE_SIZE);
+    for (size_t k = 0; k < 3 && tables[n].before[k] != NULL; k++)
+        if (send_line(tables[n].before[k]) != 0)
+            stop("not accepted before: ", tables[n].before[k]);
+    set_out(tables[n].driving);
+    uint8_t pulses[URQOLINA_PULSES_SIZE];
+    for (uint32_t k = 0; k < tables[n].ticks; k++)
+        model_tick(start, URQOLINA_TABLE_SIZE, pulses, sizeof pulses);
+    if (tables[n].damage != 0)
+        start[tables[n].damage] = 1;
+}
+
+/* A line of every form, and some that have none. */
+static const char *const lines[] = {
+    "ABS0+100",  "ABS0-2147483647", "ABS0100",  "REL0+3",       "RELF-3",         "RELF3",         "SCANP0",         "SCANN0",
+    "JOGP0",     "JOGN0",           "SSTP0",    "ESTP0",        "ASSTP",          "AESTP",         "SPC0400",        "PS0+12",
+    "PS0-2147483647", "PS012",      "FL0+3",    "FL00000000250", "BL0-3",         "BL03",          "SPDH0",          "SPDM0",
+    "SPDL0",     "SPDH05000000",    "SPDM0800", "SPDL01",       "SETLS011110000", "SETMT01100",    "PS?0",           "FL?0",
+    "BL?0",      "SPD?0",           "SPDH?0",   "SPDM?0",       "SPDL?0",         "SETLS?0",       "SETMT?0",        "STS0?",
+    "LOC",       "REM",             "ALL_REP EN", "ALL_REP DS", "ALL_REP?",       "ERRF?",         "ERR?",           "ERRC",
+    "ERRC3",     "PAUSE ON",        "PAUSE OFF", "PAUSE?"};
+
+static const char *const no_lines[] = {
+    "", "ABSBB+5", "ABS0", "SPDM0800000000000", "ALL_REP EM", "SETLS011111000", "ERRC9", "PAUSE OF", "xyz"};
+
+/* Which of the tables took each line, and which refused it, as bits. */
+static uint32_t accepted[sizeof lines / sizeof lines[0]], refused[sizeof lines / sizeof lines[0]];
+
+static void measure_table(size_t n)
+{
+    make_table(n);
+    take_up(FRESH, "", 0, 0);
+    measure();
+    for (size_t k = 0; k < sizeof lines / sizeof lines[0]; k++) {
+        uint32_t number = measure_line((const uint8_t *)lines[k], strlen(lines[k]));
+        *(number == URQOLINA_OK ? &accepted[k] : &refused[k]) |= 1u << n;
+    }
+    for (size_t k = 0; k < sizeof no_lines / sizeof no_lines[0]; k++)
+        if (measure_line((const uint8_t *)no_lines[k], strlen(no_lines[k])) == URQOLINA_OK)
+            stop("accepted: ", no_lines[k]);
+    for (uint32_t c = 0; c < URQOLINA_CHANNELS; c += 15)
+        for (uint32_t contacts = 0; contacts <= URQOLINA_CONTACTS_MOST; contacts++)
+            measure_reading(c, contacts);
+    measure_tick();
+}
+
+/* A step of the tour: of what comes before it readings and lines are told apart by their first two bytes. */
+static void measure_step(const struct step *s)
+{
+    char text[200];
+    memset(start, 0, sizeof start);
+    model_fresh(start, URQOLINA_TABLE_SIZE);
+    snprintf(text, sizeof text, "%s", s->before != NULL ? s->before : "");
+    for (char *part = strtok(text, ";"); part != NULL; part = strtok(NULL, ";"))
+        if (strncmp(part, "S ", 2) == 0)
+            model_reading(start, URQOLINA_TABLE_SIZE, (uint32_t)strtoul(part + 2, NULL, 16), (uint32_t)strtoul(part + 4, NULL, 10));
+        else
+            send_line(part);
+    if (s->damaged)
+        start[4] = 1;
+    take_up(s->kind, s->line != NULL ? s->line : "", s->channel, s->contacts);
+    call.table_size = (size_t)((int)URQOLINA_TABLE_SIZE + s->table);
+    call.reply_size = (size_t)((int)URQOLINA_REPLY_SIZE + s->reply);
+    call.pulses_size = (size_t)((int)URQOLINA_PULSES_SIZE + s->pulses);
+    if (measure() != s->number)
+        stop("a step of the tour gives another number: ", s->line != NULL ? s->line : call_names[s->kind]);
+}
+
+/* A line, a reading and a tick on a table that is drawn, and damaged once in four times. */
+static void measure_drawn(struct draw *d)
+{
+    uint8_t line[DRAW_LINE_MOST];
+    draw_sound_table(d, start);
+    size_t size = draw_line(d, start, line);
+    if (draw_once_in(d, 4))
+        size = draw_line_damage(d, line, size);
+    if (draw_once_in(d, 4))
+        draw_damage(d, start);
+    measure_line(line, size);
+    measure_reading(draw_below(d, 16), draw_below(d, 8));
+    measure_tick();
+}
+
+int main(int words, char **word)
+{
+    struct draw d = {7};
+    uint32_t most = words > 1 ? (uint32_t)strtoul(word[1], NULL, 10) : MOST;
+    bool good = true;
+    if (!paint_holds())
+        stop("the painting does not find what is 1,000 bytes down", "");
+    for (size_t n = 0; n < sizeof tables / sizeof tables[0]; n++)
+        measure_table(n);
+    for (size_t k = 0; k < sizeof lines / sizeof lines[0]; k++)
+        if (accepted[k] == 0 || refused[k] == 0)
+            stop(accepted[k] == 0 ? "accepted on no table: " : "refused on no table: ", lines[k]);
+    for (size_t k = 0; k < tour_size; k++)
+        measure_step(&tour[k]);
+    for (int k = 0; k < DRAWN; k++)
+        measure_drawn(&d);
+    printf("stack: the deepest of %u calls, in bytes, the library's and the model's:", made);
+    for (int kind = 0; kind < CALLS; kind++) {
+        printf("%s %s %u and %u", kind == 0 ? "" : ",", call_names[kind], deepest[kind][LIBRARY], deepest[kind][MODEL]);
+        good = good && deepest[kind][LIBRARY] <= most;
+    }
+    printf("; at most %u may be taken\n", most);
+    if (!good)
+        printf("stack: a call takes more\n");
+    return good ? 0 : 1;
+}
