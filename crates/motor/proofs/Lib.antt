@@ -2,6 +2,7 @@ pub mod Laws
 pub mod SoundLaws
 pub mod MovingLaws
 pub mod StandingLaws
+pub mod DrivingLaws
 pub mod JudgingLaws
 pub mod BitLaws
 pub mod SmallLaws

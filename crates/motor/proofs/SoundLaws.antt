@@ -1,5 +1,5 @@
 -- Soundness of a motor in its parts, and what follows for numbers. Assumes nothing.
-use mathlib.Core.Path.{_≡_, refl}
+use mathlib.Core.Path.{_≡_, refl, sym}
 use mathlib.Core.Bool.{Bool, true, false, _&&_, _||_, cond, false≢true}
 use mathlib.Core.Logic.{_⊎_, inl, inr}
 use Prim.Native.Nat.{ℕ, _≤_}
@@ -39,6 +39,17 @@ or-true false = refl
 pub or-false : (a : Bool) → (a || false) ≡ a
 or-false true = refl
 or-false false = refl
+
+-- Two verdicts are one where each follows from the other.
+pub both-ways : (a b : Bool) → (a ≡ true → b ≡ true) → (b ≡ true → a ≡ true) → a ≡ b
+both-ways true b f g = sym (f refl)
+both-ways false true f g = g refl
+both-ways false false f g = refl
+
+-- One that can not hold does not.
+pub never : (a : Bool) → (a ≡ true → ⊥) → a ≡ false
+never true f = absurd (f refl)
+never false f = refl
 
 -- "every field is in its range", topic by topic
 pub record InRange (m : Motor) : Type 0 where

@@ -27,7 +27,7 @@ use record::read_drive;
 use record::read_limits;
 use record::read_motor;
 ghost use mathlib.Core.Path.{_≡_};
-ghost use mathlib.Core.Bool.{_&&_, _||_, not, cond};
+ghost use mathlib.Core.Bool.{_&&_, not, cond};
 ghost use Prim.Native.Nat.{_≤_};
 ghost use lib.Dec.{eqb, leb};
 ghost use lib.Bits.{bitAnd};
@@ -224,7 +224,8 @@ fn limit_of(going: u8, l: Limits) -> u32
     if going == CW { l.cw } else { l.ccw }
 }
 
-// Whether a motor has a pulse of room in a direction: the end of the range lies ahead, and the digital limit too unless D = 0.
+// Whether a motor has a pulse of room in a direction: the end of the range lies ahead, and the digital limit too unless D = 0. D is
+// asked for last, when the machine code is done with the place and the limit, and so needs no register more.
 fn has_room(going: u8, m: Motor) -> bool
     ensures { λ r. ⌜ r ≡ leb 1 (room going m) ⌝ }
 {

@@ -1,9 +1,13 @@
 -- Numbers in digits, computed on cases. One statement for each list, by computation.
 use mathlib.Core.Path.{_≡_, refl}
+use mathlib.Core.List.{List}
 use mathlib.Core.Bool.{true, false}
-use Prim.Native.Nat.{_+_}
+use Prim.Native.Nat.{ℕ, _+_, _-_}
+use lib.Dec.{eqb}
+use borrow.Author.Tests.{eqb-false}
+use Rattle.digits.specs.Words.{word}
 use Rattle.digits.specs.Places.{origin}
-use Rattle.text.specs.Text.{bytes, decimal, signedDecimal, hexByte, hexValue, isHex, valueOf, digitsAtFront}
+use Rattle.text.specs.Text.{bytes, decimal, signedDecimal, hexByte, hexValue, isHex, valueOf, digitsAtFront, Wrote}
 use Rattle.text.specs.Text.{numberAtFront, signByte, distance}
 use Rattle.text.specs.declared.decimal.Number.the-variants.{Nothing, Read}
 use Rattle.text.specs.Computing.{computing-text}
@@ -15,6 +19,27 @@ written :
     × (decimal 1 0 ≡ bytes "0") × (hexByte 0x80 ≡ bytes "80") × (hexByte 15 ≡ bytes "0F")
 unfolding computing-text
 written = (refl, refl, refl, refl, refl, refl, refl, refl)
+
+-- Writers of -12, in at least one digit, whose part held six dots: one that keeps the promise; one that uses the part past its text as
+-- scratch; one that counts the digits of another number, and so loses one; one that writes over its sign; and one that tells the length
+-- of the part.
+apart : (a b : List ℕ) → eqb (word a) (word b) ≡ false → a ≡ b → ⊥
+apart a b e p = eqb-false (word a) (word b) e (rw p)
+
+writers :
+    Wrote (bytes "......") (bytes "-12...") (signedDecimal 1 (origin - 12)) 3
+    × (Wrote (bytes "......") (bytes "-12.12") (signedDecimal 1 (origin - 12)) 3 → ⊥)
+    × (Wrote (bytes "......") (bytes "-2....") (signedDecimal 1 (origin - 12)) 3 → ⊥)
+    × (Wrote (bytes "......") (bytes "12....") (signedDecimal 1 (origin - 12)) 3 → ⊥)
+    × (Wrote (bytes "......") (bytes "-12...") (signedDecimal 1 (origin - 12)) 6 → ⊥)
+unfolding computing-text
+writers = (
+  record { count = refl; buffer = refl },
+  λ w. apart (bytes "-12.12") (bytes "-12...") refl (w .buffer),
+  λ w. apart (bytes "-2....") (bytes "-12...") refl (w .buffer),
+  λ w. apart (bytes "12....") (bytes "-12...") refl (w .buffer),
+  λ w. eqb-false 6 3 refl (w .count),
+)
 
 -- leading zeros are digits, and the number ends where the digits do
 reads :

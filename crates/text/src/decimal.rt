@@ -170,7 +170,8 @@ fn distance_of(place: u32) -> u32
     }
 }
 
-// The position of a place: its sign, + for 0, and then at least `least` digits.
+// The position of a place: its sign, + for 0, and then at least `least` digits. 02 §4: "Have it write straight into the part of the
+// reply buffer it is given." Neither it nor what it calls has digits anywhere else.
 pub fn write_signed(out: &mut [u8], least: usize, place: u32) -> usize
     requires { ⌜ length (signedDecimal least place) ≤ length (now out) ⌝ }
     ensures { λ r. ⌜ Wrote (now (out .entry)) (now (out .exit)) (signedDecimal least place) r ⌝ }

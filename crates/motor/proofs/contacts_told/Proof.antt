@@ -1,8 +1,8 @@
 -- `motor::contacts_told` meets its contract. Assumes nothing.
-use mathlib.Core.Path.{_≡_, sym, _∙_}
+use mathlib.Core.Path.{sym, _∙_}
 use native.Mathlib.Omega.{arith}
 use Rattle.digits.specs.Bytes.{AllBytes}
-use Rattle.motor.proofs.JudgingLaws.{told-read, told-unknown, told-closed}
+use Rattle.motor.proofs.StandingLaws.{told-read, told-unknown, told-closed}
 use borrow.Author.Needs.{needs}
 use Rattle.motor.proofs.contacts_told.Statement.{statement}
 use Rattle.motor.proofs.contacts_told.Tie as tie

@@ -1,5 +1,4 @@
 -- `motor::has_room` meets its contract. Assumes nothing.
-use Rattle.motor.proofs.SoundLaws.{or-false}
 use Rattle.motor.proofs.RoomLaws.{room-ahead}
 use borrow.Author.Needs.{needs}
 use Rattle.motor.proofs.has_room.Statement.{statement}

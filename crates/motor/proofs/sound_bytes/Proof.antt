@@ -1,5 +1,5 @@
 -- `motor::sound_bytes` meets its contract. Assumes nothing.
-use mathlib.Core.Path.{_≡_, sym, _∙_}
+use mathlib.Core.Path.{sym, _∙_}
 use native.Mathlib.Omega.{arith}
 use Rattle.digits.specs.Bytes.{AllBytes}
 use Rattle.motor.proofs.JudgingLaws.{tail-judged, standing-judged, driving-judged}

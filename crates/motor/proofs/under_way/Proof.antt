@@ -2,7 +2,7 @@
 use mathlib.Core.Path.{sym, _∙_}
 use Rattle.digits.specs.Places.{cw, ccw}
 use Rattle.record.specs.Record.{driveOf, motorOf}
-use Rattle.motor.proofs.JudgingLaws.{way-same}
+use Rattle.motor.proofs.DrivingLaws.{way-same}
 use borrow.Author.Needs.{needs}
 use Rattle.motor.proofs.under_way.Statement.{statement}
 use Rattle.motor.proofs.under_way.Tie as tie
