@@ -3,9 +3,10 @@
  * with status 1 where one of the library's takes more than MOST, 512 if none is said: 02 §4, "The interrupt has 512 bytes to
  * spare".
  *
- * The deepest counts of: a line of every form, and some of none, on each of the tables below; fresh, readings and a tick on each of
- * them; the steps of the tour, wrong sizes among them; and drawn lines, readings and ticks on drawn tables, sound and damaged. A
- * line with a form must be accepted on one of the tables and refused on another, so that no form is measured in one way alone.
+ * The deepest counts of: a line of every form, and some that no table takes, on each of the tables below; fresh, readings and a tick
+ * on each of them; the steps of the tour, wrong sizes among them; and drawn lines, readings and ticks on drawn tables, sound and
+ * damaged. A line that can be refused for what it says must be accepted on one of the tables and refused on another, and one that
+ * is taken in both modes must be accepted on every table that is sound, so that no form is measured in one way alone.
  */
 #include <stdbool.h>
 #include <stdio.h>
@@ -65,67 +66,103 @@ static uint32_t measure_tick(void)
     return measure();
 }
 
-/* The tables: fresh ones with these lines sent, and then as many channels started; damage is a byte that is made 1. */
+/* The tables: fresh, with these lines sent, all switches read or none, so many channels started and so many ticks passed. Where
+   damage is not 0, that byte is made 1, and the table is not sound. */
 static const struct {
     const char *before[3];
+    bool read;
     uint32_t driving, ticks, damage;
 } tables[] = {
-    {{NULL}, 0, 0, 0},
-    {{"REM", "ALL_REP EN"}, 0, 0, 0},
-    {{"REM", "SETLS011110000", "SETLSF11110000"}, 0, 0, 0},
-    {{"REM", "ALL_REP EN"}, 16, 1, 0},
-    {{"REM", "PAUSE ON", "ALL_REP EN"}, 16, 1, 0},
-    {{"REM"}, 16, 0, 4},
-    {{"REM"}, 16, 0, 1087},
+    {{NULL}, false, 0, 0, 0},
+    {{"REM", "ALL_REP EN"}, true, 0, 0, 0},
+    {{"REM", "SETLS011110000", "SETLSF11110000"}, true, 0, 0, 0},
+    {{"REM", "ALL_REP EN"}, true, 16, 1, 0},
+    {{"REM", "PAUSE ON", "ALL_REP EN"}, true, 16, 1, 0},
+    {{"REM"}, true, 16, 0, 4},
+    {{"REM"}, true, 16, 0, 1087},
 };
 
 static void make_table(size_t n)
 {
+    uint8_t pulses[URQOLINA_PULSES_SIZE];
     memset(start, 0, sizeof start);
     model_fresh(start, URQOLINA_TABLE_SIZE);
     for (size_t k = 0; k < 3 && tables[n].before[k] != NULL; k++)
-        if (send_line(tables[n].before[k]) != 0)
+        if (send_line(tables[n].before[k]) != URQOLINA_OK)
             stop("not accepted before: ", tables[n].before[k]);
-    set_out(tables[n].driving);
-    uint8_t pulses[URQOLINA_PULSES_SIZE];
+    if (tables[n].read)
+        set_out(tables[n].driving);
     for (uint32_t k = 0; k < tables[n].ticks; k++)
         model_tick(start, URQOLINA_TABLE_SIZE, pulses, sizeof pulses);
     if (tables[n].damage != 0)
         start[tables[n].damage] = 1;
 }
 
-/* A line of every form, and some that have none. */
+/* A line of every form that local mode refuses. */
 static const char *const lines[] = {
-    "ABS0+100",  "ABS0-2147483647", "ABS0100",  "REL0+3",       "RELF-3",         "RELF3",         "SCANP0",         "SCANN0",
-    "JOGP0",     "JOGN0",           "SSTP0",    "ESTP0",        "ASSTP",          "AESTP",         "SPC0400",        "PS0+12",
-    "PS0-2147483647", "PS012",      "FL0+3",    "FL00000000250", "BL0-3",         "BL03",          "SPDH0",          "SPDM0",
-    "SPDL0",     "SPDH05000000",    "SPDM0800", "SPDL01",       "SETLS011110000", "SETMT01100",    "PS?0",           "FL?0",
-    "BL?0",      "SPD?0",           "SPDH?0",   "SPDM?0",       "SPDL?0",         "SETLS?0",       "SETMT?0",        "STS0?",
-    "LOC",       "REM",             "ALL_REP EN", "ALL_REP DS", "ALL_REP?",       "ERRF?",         "ERR?",           "ERRC",
-    "ERRC3",     "PAUSE ON",        "PAUSE OFF", "PAUSE?"};
+    "ABS0+100",     "ABS0-2147483647", "ABS0100",  "REL0+3",   "RELF-3",   "RELF3",          "SCANP0",     "SCANN0",
+    "JOGP0",        "JOGN0",           "SPC0400",  "PS0+12",   "PS0-2147483647", "PS012",    "FL0+3",      "FL00000000250",
+    "BL0-3",        "BL03",            "SPDH0",    "SPDM0",    "SPDL0",    "SPDH05000000",   "SPDM0800",   "SPDL01",
+    "SETLS011110000", "SETMT01100",    "ALL_REP EN", "ALL_REP DS", "PAUSE ON", "PAUSE OFF"};
 
+/* A line of every form that is taken in both modes. */
+static const char *const both_modes[] = {
+    "SSTP0",   "ESTP0",   "ASSTP",  "AESTP", "PS?0", "FL?0",       "BL?0",       "SPD?0",    "SPDH?0", "SPDM?0", "SPDL?0",
+    "SETLS?0", "SETMT?0", "STS0?",  "LOC",   "REM",  "ALL_REP?",   "ERRF?",      "ERR?",     "ERRC",   "ERRC3",  "PAUSE?"};
+
+/* Lines that no table takes. */
 static const char *const no_lines[] = {
     "", "ABSBB+5", "ABS0", "SPDM0800000000000", "ALL_REP EM", "SETLS011111000", "ERRC9", "PAUSE OF", "xyz"};
 
-/* Which of the tables took each line, and which refused it, as bits. */
-static uint32_t accepted[sizeof lines / sizeof lines[0]], refused[sizeof lines / sizeof lines[0]];
+#define COUNT(list) (sizeof list / sizeof list[0])
 
-static void measure_table(size_t n)
+/* Whether some sound table took each line, and whether one refused it. */
+static bool accepted[COUNT(lines)], refused[COUNT(lines)];
+
+/* Measures a line, which a table that is not sound must answer with 6, and a sound one with something else. */
+static uint32_t measure_text(size_t n, const char *line)
 {
-    make_table(n);
+    uint32_t number = measure_line((const uint8_t *)line, strlen(line));
+    if ((number == URQOLINA_NOT_SOUND) != (tables[n].damage != 0))
+        stop("6 for a sound table, or none for another: ", line);
+    return number;
+}
+
+static void measure_lines(size_t n)
+{
+    for (size_t k = 0; k < COUNT(lines); k++) {
+        uint32_t number = measure_text(n, lines[k]);
+        accepted[k] = accepted[k] || number == URQOLINA_OK;
+        refused[k] = refused[k] || (number != URQOLINA_OK && number != URQOLINA_NOT_SOUND);
+    }
+    for (size_t k = 0; k < COUNT(both_modes); k++)
+        if (measure_text(n, both_modes[k]) != URQOLINA_OK && tables[n].damage == 0)
+            stop("refused on a sound table: ", both_modes[k]);
+    for (size_t k = 0; k < COUNT(no_lines); k++)
+        if (measure_text(n, no_lines[k]) == URQOLINA_OK)
+            stop("accepted: ", no_lines[k]);
+}
+
+/* Readings of the first channel and of the last, and a tick. */
+static void measure_rest(void)
+{
+    for (uint32_t k = 0; k < 2 * (URQOLINA_CONTACTS_MOST + 1); k++)
+        measure_reading(k % 2 * (URQOLINA_CHANNELS - 1), k / 2);
+    measure_tick();
     take_up(FRESH, "", 0, 0);
     measure();
-    for (size_t k = 0; k < sizeof lines / sizeof lines[0]; k++) {
-        uint32_t number = measure_line((const uint8_t *)lines[k], strlen(lines[k]));
-        *(number == URQOLINA_OK ? &accepted[k] : &refused[k]) |= 1u << n;
+}
+
+static void measure_tables(void)
+{
+    for (size_t n = 0; n < COUNT(tables); n++) {
+        make_table(n);
+        measure_lines(n);
+        measure_rest();
     }
-    for (size_t k = 0; k < sizeof no_lines / sizeof no_lines[0]; k++)
-        if (measure_line((const uint8_t *)no_lines[k], strlen(no_lines[k])) == URQOLINA_OK)
-            stop("accepted: ", no_lines[k]);
-    for (uint32_t c = 0; c < URQOLINA_CHANNELS; c += 15)
-        for (uint32_t contacts = 0; contacts <= URQOLINA_CONTACTS_MOST; contacts++)
-            measure_reading(c, contacts);
-    measure_tick();
+    for (size_t k = 0; k < COUNT(lines); k++)
+        if (!accepted[k] || !refused[k])
+            stop(accepted[k] ? "refused on no sound table: " : "accepted on no table: ", lines[k]);
 }
 
 /* A step of the tour: of what comes before it readings and lines are told apart by their first two bytes. */
@@ -165,22 +202,10 @@ static void measure_drawn(struct draw *d)
     measure_tick();
 }
 
-int main(int words, char **word)
+/* Prints the deepest of each kind of call, and says whether one of the library's takes more than that. */
+static bool judge(uint32_t most)
 {
-    struct draw d = {7};
-    uint32_t most = words > 1 ? (uint32_t)strtoul(word[1], NULL, 10) : MOST;
     bool good = true;
-    if (!paint_holds())
-        stop("the painting does not find what is 1,000 bytes down", "");
-    for (size_t n = 0; n < sizeof tables / sizeof tables[0]; n++)
-        measure_table(n);
-    for (size_t k = 0; k < sizeof lines / sizeof lines[0]; k++)
-        if (accepted[k] == 0 || refused[k] == 0)
-            stop(accepted[k] == 0 ? "accepted on no table: " : "refused on no table: ", lines[k]);
-    for (size_t k = 0; k < tour_size; k++)
-        measure_step(&tour[k]);
-    for (int k = 0; k < DRAWN; k++)
-        measure_drawn(&d);
     printf("stack: the deepest of %u calls, in bytes, the library's and the model's:", made);
     for (int kind = 0; kind < CALLS; kind++) {
         printf("%s %s %u and %u", kind == 0 ? "" : ",", call_names[kind], deepest[kind][LIBRARY], deepest[kind][MODEL]);
@@ -189,5 +214,18 @@ int main(int words, char **word)
     printf("; at most %u may be taken\n", most);
     if (!good)
         printf("stack: a call takes more\n");
-    return good ? 0 : 1;
+    return good;
+}
+
+int main(int words, char **word)
+{
+    struct draw d = {7};
+    if (!paint_holds())
+        stop("the painting does not find what is 1,000 bytes down", "");
+    measure_tables();
+    for (size_t k = 0; k < tour_size; k++)
+        measure_step(&tour[k]);
+    for (int k = 0; k < DRAWN; k++)
+        measure_drawn(&d);
+    return judge(words > 1 ? (uint32_t)strtoul(word[1], NULL, 10) : MOST) ? 0 : 1;
 }

@@ -16,8 +16,8 @@ use Rattle.record.specs.declared.Motor.{Motor}
 use Rattle.record.specs.Record.{byteAt, longAt, goingOf, heldOf, motorOf}
 use Rattle.motor.specs.Switches.{blocked, edge, room}
 use Rattle.motor.specs.Sound.{isSpeed, limitsInRange, speedsInRange, wiringInRange, setupInRange, contactsRight, endFlagsInRange, aimRight, busy, soundMotor, heldRight}
-use Rattle.motor.specs.Judging.{aimed, free, wayAllowed, drivingJudged}
-use Rattle.motor.proofs.SoundLaws.{and-l, and-r, or-false, InRange, UnderWay, bounds-drive, speed-bounds, range-bounds, sound-parts, sound-busy, busy-sound, target-position}
+use Rattle.motor.specs.Judged.{aimed, free, wayAllowed, drivingJudged}
+use Rattle.motor.proofs.SoundLaws.{and-l, and-r, or-true, or-false, InRange, UnderWay, bounds-drive, speed-bounds, range-bounds, sound-parts, sound-busy, busy-sound, target-position}
 use Rattle.motor.proofs.StandingLaws.{word-44, first-byte}
 
 -- A direction is CW or it is not: what is judged in it is the same for all that are not.
@@ -39,11 +39,7 @@ allowed-way paused n e = go (leb n 2) refl paused e
     go : (t : Bool) → leb n 2 ≡ t → (p : Bool) → (t || (p && leb n 4)) ≡ true → (goingOf n ≤ 2) × ((p || not (heldOf n)) ≡ true)
     go true l p h =
         let two = leb-true n 2 l in
-        rw (ne-eqb n 3 (omega arith), ne-eqb n 4 (omega arith)) (two, yes p)
-      where
-        yes : (p : Bool) → (p || true) ≡ true
-        yes true = refl
-        yes false = refl
+        rw (ne-eqb n 3 (omega arith), ne-eqb n 4 (omega arith)) (two, or-true p)
     go false l true h = (held (leb-false n 2 l) h, refl)
     go false l false h = absurd (false≢true h)
 
@@ -87,10 +83,10 @@ unfolding motorOf
 byte-32 paused b = (refl, refl)
 
 -- A sound record with a drive is judged so.
-pub sound-driving : (paused : Bool) (b : List ℕ) → length b ≡ 64 → busy (motorOf b) ≡ true
+pub sound-judged : (paused : Bool) (b : List ℕ) → length b ≡ 64 → busy (motorOf b) ≡ true
     → soundMotor (motorOf b) ≡ true → heldRight paused (motorOf b) ≡ true → allZero (part b 45 3) ≡ true → drivingJudged paused b ≡ true
 unfolding speedsInRange aimRight
-sound-driving paused b n drives s h z =
+sound-judged paused b n drives s h z =
     let m = motorOf b in
     let r = sound-parts m s .range in
     let k = range-bounds m r in
@@ -155,10 +151,10 @@ speeds-right : (m : Motor) → (isSpeed (m .speeds .high) && isSpeed (m .speeds 
 unfolding speedsInRange
 speeds-right m e f = rw (e, f)
 
-pub driving-sound : (paused : Bool) (b : List ℕ) → length b ≡ 64 → busy (motorOf b) ≡ true → drivingJudged paused b ≡ true
+pub judged-sound : (paused : Bool) (b : List ℕ) → length b ≡ 64 → busy (motorOf b) ≡ true → drivingJudged paused b ≡ true
     → (soundMotor (motorOf b) ≡ true) × (heldRight paused (motorOf b) ≡ true) × (allZero (part b 45 3) ≡ true)
 unfolding aimRight
-driving-sound paused b n drives e =
+judged-sound paused b n drives e =
     let m = motorOf b in
     let j = judged-parts paused b e in
     let first = first-byte (byteAt b 44) (word (part b 45 3)) (sym (word-44 b n) ∙ j .first) in

@@ -3,7 +3,7 @@ pub mod SoundLaws
 pub mod MovingLaws
 pub mod StandingLaws
 pub mod DrivingLaws
-pub mod JudgingLaws
+pub mod JudgedLaws
 pub mod BitLaws
 pub mod SmallLaws
 pub mod RoomLaws

@@ -1,4 +1,4 @@
--- Records with zeros where a drive would stand, and where no topic has its bytes. Assumes nothing.
+-- What is judged of a record without a drive, with zeros where one would stand, and soundness. Assumes nothing.
 use mathlib.Core.Path.{_≡_, refl, sym, _∙_}
 use mathlib.Core.List.{List}
 use mathlib.Core.Bool.{Bool, true, false, _&&_, cond}
@@ -16,7 +16,7 @@ use Rattle.digits.proofs.WordLaws.{word-part, word-below, word-zero, zero-part}
 use Rattle.record.specs.declared.Motor.{Motor}
 use Rattle.record.specs.Record.{byteAt, longAt, driveOf, motorOf, standing}
 use Rattle.motor.specs.Sound.{contactsRight, settingsInRange, endFlagsInRange, driveInRange, inRange, atRest, busy, soundMotor, heldRight}
-use Rattle.motor.specs.Judging.{told}
+use Rattle.motor.specs.Judged.{told}
 use Rattle.motor.proofs.SoundLaws.{and-l, and-r, and-true, and-false, or-true, both-ways, never}
 
 -- Of a part that is all zero the first word is 0, and what comes after it is all zero.

@@ -1,4 +1,4 @@
 pub mod Switches
 pub mod Sound
-pub mod Judging
+pub mod Judged
 pub mod Computing

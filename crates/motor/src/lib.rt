@@ -21,7 +21,7 @@ use record::Motor;
 use record::Setup;
 use record::Speeds;
 use record::Wiring;
-use record::goes_cw;
+use record::is_cw;
 use record::place_at;
 use record::read_drive;
 use record::read_limits;
@@ -39,7 +39,7 @@ ghost use Rattle.record.specs.Record.{motorOf};
 ghost use Rattle.motor.specs.Switches.{switchOf, unread, active, blocked, edge, room};
 ghost use Rattle.motor.specs.Sound.{isSpeed, limitsInRange, wiringInRange, setupInRange, settingsInRange, endFlagsInRange};
 ghost use Rattle.motor.specs.Sound.{busy, moving, soundUnder};
-ghost use Rattle.motor.specs.Judging.{fieldsRight, clearWay, aimed, free, drivesRight, wayAllowed, drivingJudged, told, standingJudged};
+ghost use Rattle.motor.specs.Judged.{fieldsRight, clearAhead, aimed, free, drivesRight, wayAllowed, drivingJudged, told, standingJudged};
 
 // The switch that a direction runs into, by its bit: 0 CW, 1 CCW.
 fn switch_of(going: u8) -> u8
@@ -243,7 +243,7 @@ fn has_room(going: u8, m: Motor) -> bool
 
 // Whether a motor has room and no active enabled switch in a direction.
 fn is_clear(going: u8, m: Motor) -> bool
-    ensures { λ r. ⌜ r ≡ clearWay going m ⌝ }
+    ensures { λ r. ⌜ r ≡ clearAhead going m ⌝ }
 {
     if has_room(going, m) {
         !is_blocked(going, m)
@@ -253,7 +253,7 @@ fn is_clear(going: u8, m: Motor) -> bool
 }
 
 // Whether a drive from a place has a target strictly ahead, or is a scan and has none.
-fn aim_right(going: u8, p: u32, d: Drive) -> bool
+fn is_aimed(going: u8, p: u32, d: Drive) -> bool
     ensures { λ r. ⌜ r ≡ aimed going p d ⌝ }
 {
     if d.kind == 1 {
@@ -269,11 +269,11 @@ fn aim_right(going: u8, p: u32, d: Drive) -> bool
     }
 }
 
-// Whether the limits of a record are positions, and its way in a direction is clear. This and what follows read of the record what
-// they ask for, where they ask: of a motor that is read before, the machine code keeps every field at hand, on the stack.
-fn has_way(going: u8, b: &[u8]) -> bool
+// Whether the limits of a record are positions, and nothing is in its path in a direction. This and what follows read of the record
+// what they ask for, where they ask: of a motor that is read before, the machine code keeps every field at hand, on the stack.
+fn has_path(going: u8, b: &[u8]) -> bool
     requires { ⌜ length (now b) ≡ 64 ⌝ }
-    ensures { λ r. ⌜ r ≡ (limitsInRange (motorOf (now (b .entry)) .limits) && clearWay going (motorOf (now (b .entry)))) ⌝ }
+    ensures { λ r. ⌜ r ≡ (limitsInRange (motorOf (now (b .entry)) .limits) && clearAhead going (motorOf (now (b .entry)))) ⌝ }
 {
     if limits_in_range(read_limits(b)) {
         is_clear(going, read_motor(b))
@@ -282,15 +282,15 @@ fn has_way(going: u8, b: &[u8]) -> bool
     }
 }
 
-// Whether a record is free to drive on in a direction: its position is one, its aim is right, and it has a way.
+// Whether a record is free to drive on in a direction: its position is one, it is aimed, and it has a path.
 fn is_free(going: u8, b: &[u8]) -> bool
     requires { ⌜ length (now b) ≡ 64 ⌝ }
     ensures { λ r. ⌜ r ≡ free going (motorOf (now (b .entry))) ⌝ }
 {
     let p = place_at(b, 0);
     if is_position(p) {
-        if aim_right(going, p, read_drive(b)) {
-            has_way(going, b)
+        if is_aimed(going, p, read_drive(b)) {
+            has_path(going, b)
         } else {
             false
         }
@@ -299,15 +299,15 @@ fn is_free(going: u8, b: &[u8]) -> bool
     }
 }
 
-// Whether a driving record keeps the rules for one, its settings and its contacts aside. Each direction has a branch of its own, so
-// that the machine code asks for it once and not at every rule.
-fn under_way(b: &[u8]) -> bool
+// Whether a driving record keeps the rules for one, byte 32, its contacts, its speeds and its fields of one byte aside. Each direction
+// has a branch of its own, so that the machine code asks for it once and not at every rule.
+fn drives_right(b: &[u8]) -> bool
     requires { ⌜ length (now b) ≡ 64 ⌝ }
     ensures { λ r. ⌜ r ≡ drivesRight (motorOf (now (b .entry))) ⌝ }
 {
     let d = read_drive(b);
     if (byte_at(b, 31) == 0) & (byte_at(b, 27) == 1) & is_speed(d.speed) & (d.fraction <= 999) {
-        if goes_cw(b) {
+        if is_cw(b) {
             is_free(CW, b)
         } else {
             is_free(CCW, b)
@@ -346,7 +346,7 @@ fn driving_sound(paused: bool, b: &[u8]) -> bool
 {
     if long_at(b, 44) == 1 {
         if way_right(paused, byte_at(b, 32)) {
-            if under_way(b) {
+            if drives_right(b) {
                 fields_in_range(b)
             } else {
                 false

@@ -224,7 +224,7 @@ pub fn is_going(b: &[u8]) -> bool
 }
 
 // Whether a record holds a drive CW, going or held, by its byte 32.
-pub fn goes_cw(b: &[u8]) -> bool
+pub fn is_cw(b: &[u8]) -> bool
     requires { ⌜ length (now b) ≡ 64 ⌝ }
     ensures { λ r. ⌜ r ≡ eqb (driveOf (now (b .entry)) .going) cw ⌝ }
 {

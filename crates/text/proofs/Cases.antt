@@ -20,16 +20,17 @@ written :
 unfolding computing-text
 written = (refl, refl, refl, refl, refl, refl, refl, refl)
 
--- Writers of -12, in at least one digit, whose part held six dots: one that keeps the promise; one that uses the part past its text as
--- scratch; one that counts the digits of another number, and so loses one; one that writes over its sign; and one that tells the length
--- of the part.
+-- Texts of different numbers are not the same text.
 apart : (a b : List ℕ) → eqb (word a) (word b) ≡ false → a ≡ b → ⊥
 apart a b e p = eqb-false (word a) (word b) e (rw p)
 
+-- Writers of -12, in at least one digit, whose part held six dots: one that keeps the promise; one that uses the part past its text as
+-- scratch; one that counts the digits of another number, and so loses one; one that writes over its sign; and one that tells the length
+-- of the part.
 writers :
     Wrote (bytes "......") (bytes "-12...") (signedDecimal 1 (origin - 12)) 3
     × (Wrote (bytes "......") (bytes "-12.12") (signedDecimal 1 (origin - 12)) 3 → ⊥)
-    × (Wrote (bytes "......") (bytes "-2....") (signedDecimal 1 (origin - 12)) 3 → ⊥)
+    × (Wrote (bytes "......") (bytes "-2....") (signedDecimal 1 (origin - 12)) 2 → ⊥)
     × (Wrote (bytes "......") (bytes "12....") (signedDecimal 1 (origin - 12)) 3 → ⊥)
     × (Wrote (bytes "......") (bytes "-12...") (signedDecimal 1 (origin - 12)) 6 → ⊥)
 unfolding computing-text

@@ -13,17 +13,17 @@ byte-at-requires c κs = search needs
 way-right-requires : tie.Need-way-right-requires
 way-right-requires c κs = search needs
 
-under-way-requires : tie.Need-under-way-requires
-under-way-requires c κs = search needs
+drives-right-requires : tie.Need-drives-right-requires
+drives-right-requires c κs = search needs
 
 fields-in-range-requires : tie.Need-fields-in-range-requires
 fields-in-range-requires c κs = search needs
 
 returns : tie.Need-returns
-returns c = rw (c .fields-in-range .ensures, ← c .before .before .before .before .before .before .before .long-at .ensures, eq-eqb _ _ (c .before .before .before .before .before .before .if1 .taken), ← c .before .before .before .before .before .byte-at .ensures, ← c .before .before .before .before .way-right .ensures, c .before .before .before .if2 .taken, ← c .before .before .under-way .ensures, c .before .if3 .taken)
+returns c = rw (c .fields-in-range .ensures, ← c .before .before .before .before .before .before .before .long-at .ensures, eq-eqb _ _ (c .before .before .before .before .before .before .if1 .taken), ← c .before .before .before .before .before .byte-at .ensures, ← c .before .before .before .before .way-right .ensures, c .before .before .before .if2 .taken, ← c .before .before .drives-right .ensures, c .before .if3 .taken)
 
 returns-2 : tie.Need-returns-2
-returns-2 c = rw (← c .before .before .before .before .before .before .long-at .ensures, eq-eqb _ _ (c .before .before .before .before .before .if1 .taken), ← c .before .before .before .before .byte-at .ensures, ← c .before .before .before .way-right .ensures, c .before .before .if2 .taken, ← c .before .under-way .ensures, c .if3 .left)
+returns-2 c = rw (← c .before .before .before .before .before .before .long-at .ensures, eq-eqb _ _ (c .before .before .before .before .before .if1 .taken), ← c .before .before .before .before .byte-at .ensures, ← c .before .before .before .way-right .ensures, c .before .before .if2 .taken, ← c .before .drives-right .ensures, c .if3 .left)
 
 returns-3 : tie.Need-returns-3
 returns-3 c = rw (← c .before .before .before .before .long-at .ensures, eq-eqb _ _ (c .before .before .before .if1 .taken), ← c .before .before .byte-at .ensures, ← c .before .way-right .ensures, c .if2 .left)
@@ -32,4 +32,4 @@ returns-4 : tie.Need-returns-4
 returns-4 c = rw (← c .before .long-at .ensures, ne-eqb _ _ (c .if1 .left))
 
 pub driving-sound-spec : {M : Type 1} → statement M
-driving-sound-spec = tie.close (tie.spec long-at-requires byte-at-requires way-right-requires under-way-requires fields-in-range-requires returns returns-2 returns-3 returns-4)
+driving-sound-spec = tie.close (tie.spec long-at-requires byte-at-requires way-right-requires drives-right-requires fields-in-range-requires returns returns-2 returns-3 returns-4)

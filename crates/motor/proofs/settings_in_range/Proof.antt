@@ -6,7 +6,7 @@ use Rattle.record.specs.declared.Motor.{Motor}
 use Rattle.digits.specs.Places.{isPosition}
 use Rattle.record.specs.Record.{motorOf}
 use Rattle.motor.specs.Sound.{isSpeed, limitsInRange, wiringInRange, setupInRange, endFlagsInRange, settingsInRange, speedsInRange}
-use Rattle.motor.specs.Judging.{fieldsRight}
+use Rattle.motor.specs.Judged.{fieldsRight}
 use borrow.Author.Needs.{needs}
 use Rattle.motor.proofs.settings_in_range.Statement.{statement}
 use Rattle.motor.proofs.settings_in_range.Tie as tie

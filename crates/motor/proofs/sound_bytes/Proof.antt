@@ -2,7 +2,7 @@
 use mathlib.Core.Path.{sym, _∙_}
 use native.Mathlib.Omega.{arith}
 use Rattle.digits.specs.Bytes.{AllBytes}
-use Rattle.motor.proofs.JudgingLaws.{tail-judged, standing-judged, driving-judged}
+use Rattle.motor.proofs.JudgedLaws.{tail-judged, standing-judged, driving-judged}
 use borrow.Author.Needs.{needs}
 use Rattle.motor.proofs.sound_bytes.Statement.{statement}
 use Rattle.motor.proofs.sound_bytes.Tie as tie

@@ -1,5 +1,5 @@
 -- In which order the code judges a record, part by part: what is cheap comes first, and what a motor that stands does not have is not
--- asked for. Nobody need believe it: proofs/JudgingLaws.antt says that together it is soundness.
+-- asked for. Nobody need believe it: proofs/JudgedLaws.antt says that together it is soundness.
 use Prim.Native.Nat.{ℕ}
 use mathlib.Core.List.{List}
 use mathlib.Core.Bool.{Bool, _&&_, _||_, not, cond}
@@ -20,8 +20,8 @@ fieldsRight m =
     && (leb (m .speeds .selected) 2 && wiringInRange (m .wiring) && setupInRange (m .setup) && endFlagsInRange (m .ended))
 
 -- a pulse of room and no active enabled switch in a direction
-abbrev pub clearWay : ℕ → Motor → Bool
-clearWay going m = leb 1 (room going m) && not (blocked going m)
+abbrev pub clearAhead : ℕ → Motor → Bool
+clearAhead going m = leb 1 (room going m) && not (blocked going m)
 
 -- the kind and the target of a drive from a place
 abbrev pub aimed : ℕ → ℕ → Drive → Bool
@@ -30,7 +30,7 @@ aimed going p d =
 
 -- the position, the aim, the limits and what lies ahead, in a direction
 abbrev pub free : ℕ → Motor → Bool
-free going m = isPosition (m .place) && (aimed going (m .place) (m .drive) && (limitsInRange (m .limits) && clearWay going m))
+free going m = isPosition (m .place) && (aimed going (m .place) (m .drive) && (limitsInRange (m .limits) && clearAhead going m))
 
 -- all of a drive but byte 32, and what it asks of the motor
 abbrev pub drivesRight : Motor → Bool

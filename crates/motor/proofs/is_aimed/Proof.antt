@@ -1,8 +1,8 @@
--- `motor::aim_right` meets its contract. Assumes nothing.
+-- `motor::is_aimed` meets its contract. Assumes nothing.
 use borrow.Author.Tests.{eq-eqb, ne-eqb}
 use borrow.Author.Needs.{needs}
-use Rattle.motor.proofs.aim_right.Statement.{statement}
-use Rattle.motor.proofs.aim_right.Tie as tie
+use Rattle.motor.proofs.is_aimed.Statement.{statement}
+use Rattle.motor.proofs.is_aimed.Tie as tie
 
 is-position-requires : tie.Need-is-position-requires
 is-position-requires c κs = search needs
@@ -22,5 +22,5 @@ returns-3 c = rw (ne-eqb _ _ (c .before .before .before .if1 .left), eq-eqb _ _ 
 returns-4 : tie.Need-returns-4
 returns-4 c = rw (ne-eqb _ _ (c .before .before .if1 .left), ne-eqb _ _ (c .if3 .left))
 
-pub aim-right-spec : {M : Type 1} → statement M
-aim-right-spec = tie.close (tie.spec is-position-requires lies-ahead-requires returns returns-2 returns-3 returns-4)
+pub is-aimed-spec : {M : Type 1} → statement M
+is-aimed-spec = tie.close (tie.spec is-position-requires lies-ahead-requires returns returns-2 returns-3 returns-4)

@@ -1,4 +1,4 @@
--- `record::goes_cw` meets its contract. Assumes nothing.
+-- `record::is_cw` meets its contract. Assumes nothing.
 use mathlib.Core.Path.{_≡_, refl}
 use mathlib.Core.Bool.{Bool, true, false, _||_}
 use Prim.Native.Nat.{ℕ}
@@ -7,8 +7,8 @@ use borrow.Author.Tests.{eqb-true}
 use borrow.Author.Needs.{needs}
 use Rattle.digits.specs.Places.{cw}
 use Rattle.record.specs.Record.{byteAt, goingOf}
-use Rattle.record.proofs.goes_cw.Statement.{statement}
-use Rattle.record.proofs.goes_cw.Tie as tie
+use Rattle.record.proofs.is_cw.Statement.{statement}
+use Rattle.record.proofs.is_cw.Tie as tie
 
 -- Byte 32 is 1 or 3 just where it tells CW.
 cw-byte : (n : ℕ) → (eqb n 1 || eqb n 3) ≡ eqb (goingOf n) cw
@@ -29,5 +29,5 @@ byte-at-requires c κs = search needs
 returns : tie.Need-returns
 returns c = rw (c .byte-at .ensures) (cw-byte (byteAt (c .before .before .args .b .now) 32))
 
-pub goes-cw-spec : {M : Type 1} → statement M
-goes-cw-spec = tie.close (tie.spec byte-at-requires returns)
+pub is-cw-spec : {M : Type 1} → statement M
+is-cw-spec = tie.close (tie.spec byte-at-requires returns)

@@ -12,10 +12,10 @@ use Rattle.digits.specs.Words.{word}
 use Rattle.digits.proofs.WordLaws.{word-zero, zero-part}
 use Rattle.record.specs.Record.{byteAt, longAt, wiringOf, goingOf, motorOf}
 use Rattle.motor.specs.Sound.{contactsRight, settingsInRange, endFlagsInRange, busy, soundMotor, soundRecord, heldRight, soundUnder}
-use Rattle.motor.specs.Judging.{drivingJudged, standingJudged}
+use Rattle.motor.specs.Judged.{drivingJudged, standingJudged}
 use Rattle.motor.proofs.SoundLaws.{and-l, and-r, both-ways}
 use Rattle.motor.proofs.StandingLaws.{still-sound}
-use Rattle.motor.proofs.DrivingLaws.{sound-driving, driving-sound}
+use Rattle.motor.proofs.DrivingLaws.{sound-judged, judged-sound}
 
 -- Soundness in the order of the code: the tail, and then the rest by what byte 32 tells.
 regroup : (s z t h : Bool) → (s && (z && t) && h) ≡ (t && (s && h && z))
@@ -75,7 +75,7 @@ driving-judged paused b n t f = rw (in-order paused b n, t) (both-ways _ _ there
     there e =
         let s = and-l (soundMotor (motorOf b)) _ (and-l _ (allZero (part b 45 3)) e) in
         let h = and-r (soundMotor (motorOf b)) _ (and-l _ (allZero (part b 45 3)) e) in
-        sound-driving paused b n (busy-byte b f) s h (and-r (soundMotor (motorOf b) && heldRight paused (motorOf b)) _ e)
+        sound-judged paused b n (busy-byte b f) s h (and-r (soundMotor (motorOf b) && heldRight paused (motorOf b)) _ e)
 
     back : drivingJudged paused b ≡ true → (soundMotor (motorOf b) && heldRight paused (motorOf b) && allZero (part b 45 3)) ≡ true
-    back e = let s = driving-sound paused b n (busy-byte b f) e in rw (s .0, s .1, s .2)
+    back e = let s = judged-sound paused b n (busy-byte b f) e in rw (s .0, s .1, s .2)

@@ -1,8 +1,8 @@
--- `motor::has_way` meets its contract. Assumes nothing.
+-- `motor::has_path` meets its contract. Assumes nothing.
 use Rattle.record.specs.Record.{motorOf}
 use borrow.Author.Needs.{needs}
-use Rattle.motor.proofs.has_way.Statement.{statement}
-use Rattle.motor.proofs.has_way.Tie as tie
+use Rattle.motor.proofs.has_path.Statement.{statement}
+use Rattle.motor.proofs.has_path.Tie as tie
 
 read-limits-requires : tie.Need-read-limits-requires
 read-limits-requires c κs = search needs
@@ -24,5 +24,5 @@ returns-2 : tie.Need-returns-2
 unfolding motorOf
 returns-2 c = rw (← c .before .before .read-limits .ensures, ← c .before .limits-in-range .ensures, c .if1 .left)
 
-pub has-way-spec : {M : Type 1} → statement M
-has-way-spec = tie.close (tie.spec read-limits-requires limits-in-range-requires read-motor-requires is-clear-requires returns returns-2)
+pub has-path-spec : {M : Type 1} → statement M
+has-path-spec = tie.close (tie.spec read-limits-requires limits-in-range-requires read-motor-requires is-clear-requires returns returns-2)
