@@ -5,8 +5,8 @@
  *
  * The deepest counts of: a line of every form, and some that no table takes, on each of the tables below; fresh, readings and a tick
  * on each of them; the steps of the tour, wrong sizes among them; and drawn lines, readings and ticks on drawn tables, sound and
- * damaged. A line that can be refused for what it says must be accepted on one of the tables and refused on another, and one that
- * is taken in both modes must be accepted on every table that is sound, so that no form is measured in one way alone.
+ * damaged. A line that local mode refuses must be accepted on one sound table and refused on another, and one that is taken in both
+ * modes accepted on each of them; the tables that are not sound refuse both.
  */
 #include <stdbool.h>
 #include <stdio.h>
