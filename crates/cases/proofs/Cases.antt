@@ -17,10 +17,10 @@ use Rattle.cases.proofs.Steps.{Step, says, reads, ticks, holds, lent, f
 -- that; reads, stops, LOC, REM and the ERR family are taken. Each number leaves its flag, and ERR? tells the lowest.
 local-mode : List Step
 local-mode =
-    says "SCANP0" 4 "" ∷ says "PS0+9999999999" 4 "" ∷ says "SPDM0" 4 "" ∷ says "SPC00" 4 "" ∷ says "ALL_REP EN" 4 "" ∷ says "REL0+0" 4 ""
+    says "SCANP0" 7 "" ∷ says "PS0+9999999999" 7 "" ∷ says "SPDM0" 7 "" ∷ says "SPC00" 7 "" ∷ says "ALL_REP EN" 7 "" ∷ says "REL0+0" 7 ""
     ∷ says "ERRF?" 0 "08" ∷ says "ERR?" 0 "OTHER ERROR" ∷ says "scanp0" 1 "" ∷ says "ERR?" 0 "COMMAND ERROR" ∷ says "ERRC4" 3 ""
     ∷ says "ERRF?" 0 "0D" ∷ says "ERRC0" 0 "" ∷ says "ERR?" 0 "PARAMETER ERROR" ∷ says "SSTP0" 0 "" ∷ says "AESTP" 0 ""
-    ∷ says "ALL_REP?" 0 "DS" ∷ says "LOC" 0 "" ∷ says "STSF?" 0 "LFS000+0000000" ∷ says "ERRC" 0 "" ∷ says "ERR?" 0 "NO ERROR" ∷ says "SCANP0" 4 "" ∷ says "" 1 ""
+    ∷ says "ALL_REP?" 0 "DS" ∷ says "LOC" 0 "" ∷ says "STSF?" 0 "LFS000+0000000" ∷ says "ERRC" 0 "" ∷ says "ERR?" 0 "NO ERROR" ∷ says "SCANP0" 7 "" ∷ says "" 1 ""
     ∷ says "ERRC3" 0 "" ∷ says "ERRF?" 0 "01" ∷ []
 
 local-mode-checked : seen local-mode ≡ map stated local-mode
@@ -31,11 +31,11 @@ local-mode-checked = checked local-mode refl
 -- the present position and REL 0 meet no check after busy; SPC knows no busy and needs a drive.
 refusals : List Step
 refusals =
-    reads 14 0 0 ∷ says "REM" 0 "" ∷ says "PSE+2147483640" 0 "" ∷ says "SPCE100" 4 "" ∷ says "SCANNE" 0 "" ∷ says "RELE+2147483648" 3 ""
+    reads 14 0 0 ∷ says "REM" 0 "" ∷ says "PSE+2147483640" 0 "" ∷ says "SPCE100" 13 "" ∷ says "SCANNE" 0 "" ∷ says "RELE+2147483648" 3 ""
     ∷ says "RELE+100" 2 "" ∷ says "ABSE+2147483640" 2 "" ∷ says "RELE+0" 2 "" ∷ says "SPDME5000001" 3 "" ∷ says "SPDME500" 2 ""
     ∷ says "SPDHE" 2 "" ∷ says "FLE+1" 2 "" ∷ says "SETMTE1110" 3 "" ∷ says "SETMTE1100" 2 "" ∷ says "SETLSE21110000" 3 ""
     ∷ says "SPCE5000001" 3 "" ∷ says "SPCE5000000" 0 "" ∷ says "SSTPE" 0 "" ∷ says "SSTPE" 0 "" ∷ says "STSE?" 0 "RES040+2147483640"
-    ∷ says "JOGPE" 0 "" ∷ says "ESTPE" 0 "" ∷ says "SETMTE0000" 0 "" ∷ says "RELE+100" 3 "" ∷ says "SCANNE" 4 "" ∷ says "ABSE+2147483640" 0 ""
+    ∷ says "JOGPE" 0 "" ∷ says "ESTPE" 0 "" ∷ says "SETMTE0000" 0 "" ∷ says "RELE+100" 3 "" ∷ says "SCANNE" 8 "" ∷ says "ABSE+2147483640" 0 ""
     ∷ says "RELE-0" 0 "" ∷ says "STSE?" 0 "RES880+2147483640" ∷ says "ERRF?" 0 "0E" ∷ says "ERR?" 0 "MCC06 BUSY ERROR" ∷ []
 
 refusals-checked : seen refusals ≡ map stated refusals
@@ -47,8 +47,8 @@ refusals-checked = checked refusals refl
 all-reply : List Step
 all-reply =
     reads 3 0 0 ∷ says "REM" 0 "" ∷ says "ALL_REP EN" 0 "OK" ∷ says "ALL_REP?" 0 "EN" ∷ says "SCANP3" 0 "OK" ∷ says "SCANP3" 2 "MCC06 BUSY ERROR"
-    ∷ says "PS0+2147483648" 3 "PARAMETER ERROR" ∷ says "X" 1 "COMMAND ERROR" ∷ says "SPC0800" 4 "NG" ∷ says "ASSTP" 0 "OK" ∷ says "LOC" 0 "OK"
-    ∷ says "ALL_REP DS" 4 "NG" ∷ says "REM" 0 "OK" ∷ says "ALL_REP DS" 0 "" ∷ says "X" 1 "" ∷ says "ALL_REP?" 0 "DS" ∷ []
+    ∷ says "PS0+2147483648" 3 "PARAMETER ERROR" ∷ says "X" 1 "COMMAND ERROR" ∷ says "SPC0800" 13 "NG" ∷ says "ASSTP" 0 "OK" ∷ says "LOC" 0 "OK"
+    ∷ says "ALL_REP DS" 7 "NG" ∷ says "REM" 0 "OK" ∷ says "ALL_REP DS" 0 "" ∷ says "X" 1 "" ∷ says "ALL_REP?" 0 "DS" ∷ []
 
 all-reply-checked : seen all-reply ≡ map stated all-reply
 unfolding computing-urqolina all-reply fresh Q.after after seenBy stated
@@ -76,7 +76,7 @@ bare =
     reads 0 0 0 ∷ says "REM" 0 "" ∷ says "SPDM05000000" 0 "" ∷ says "ABS0100" 0 "" ∷ ticks 0 cw 100 ∷ says "REL05" 0 "" ∷ ticks 0 cw 5 ∷ says "PS?0" 0 "+0000105"
     ∷ says "FL0250" 0 "" ∷ says "FL?0" 0 "+0000250" ∷ says "BL030" 0 "" ∷ says "BL?0" 0 "+0000030" ∷ says "ABS0" 1 "" ∷ says "ABS0+" 1 "" ∷ says "ABS0+-5" 1 ""
     ∷ says "ABSBB5" 1 "" ∷ says "PS02147483648" 3 "" ∷ says "PS012345678901" 1 "" ∷ says "PS00000000007" 0 "" ∷ says "PS?0" 0 "+0000007" ∷ says "PS0-0" 0 ""
-    ∷ says "PS?0" 0 "+0000000" ∷ says "SCANP0" 0 "" ∷ says "SPC0+400" 1 "" ∷ says "SPC0400" 0 "" ∷ says "PS07" 2 "" ∷ says "LOC" 0 "" ∷ says "ABS07" 4 "" ∷ []
+    ∷ says "PS?0" 0 "+0000000" ∷ says "SCANP0" 0 "" ∷ says "SPC0+400" 1 "" ∷ says "SPC0400" 0 "" ∷ says "PS07" 2 "" ∷ says "LOC" 0 "" ∷ says "ABS07" 7 "" ∷ []
 
 bare-checked : seen bare ≡ map stated bare
 unfolding computing-urqolina bare fresh Q.after after seenBy stated
@@ -100,14 +100,14 @@ readings-checked = checked readings refl
 -- is read. The target's range comes before the reading, and contacts over 7 are none; a reading of another channel tells nothing.
 unread : List (List Step)
 unread =
-    (says "REM" 0 "" ∷ says "SCANP0" 4 "" ∷ says "STS0?" 0 "R0S000+0000000" ∷ says "REL0+0" 0 "" ∷ says "ABS0+0" 0 "" ∷ says "SETLS000000000" 0 ""
-    ∷ says "SCANP0" 4 "" ∷ reads 0 0 0 ∷ says "SCANP0" 0 "" ∷ says "ESTP0" 0 "" ∷ says "SCANN0" 0 "" ∷ says "ASSTP" 0 "" ∷ says "SETLS001110000" 0 ""
+    (says "REM" 0 "" ∷ says "SCANP0" 9 "" ∷ says "STS0?" 0 "R0S000+0000000" ∷ says "REL0+0" 0 "" ∷ says "ABS0+0" 0 "" ∷ says "SETLS000000000" 0 ""
+    ∷ says "SCANP0" 9 "" ∷ reads 0 0 0 ∷ says "SCANP0" 0 "" ∷ says "ESTP0" 0 "" ∷ says "SCANN0" 0 "" ∷ says "ASSTP" 0 "" ∷ says "SETLS001110000" 0 ""
     ∷ says "JOGP0" 0 "" ∷ [])
-    ∷ (reads 0 1 0 ∷ says "REM" 0 "" ∷ says "STS0?" 0 "R0S100+0000000" ∷ says "SCANP0" 4 "" ∷ says "SCANN0" 0 "" ∷ [])
+    ∷ (reads 0 1 0 ∷ says "REM" 0 "" ∷ says "STS0?" 0 "R0S100+0000000" ∷ says "SCANP0" 10 "" ∷ says "SCANN0" 0 "" ∷ [])
     ∷ (says "REM" 0 "" ∷ says "SETLS001110111" 0 "" ∷ says "STS0?" 0 "R0S000+0000000" ∷ says "SETMT01000" 0 "" ∷ says "STS0?" 0 "R0S800+0000000"
     ∷ reads 0 0 0 ∷ says "STS0?" 0 "R0SF00+0000000" ∷ [])
-    ∷ (says "REM" 0 "" ∷ says "PS0+2147483647" 0 "" ∷ says "REL0+1" 3 "" ∷ says "JOGP0" 3 "" ∷ says "SCANP0" 4 "" ∷ says "ERRF?" 0 "0C" ∷ reads 0 8 5
-    ∷ reads 1 0 0 ∷ says "SCANN0" 4 "" ∷ reads 0 0 0 ∷ says "SCANN0" 0 "" ∷ [])
+    ∷ (says "REM" 0 "" ∷ says "PS0+2147483647" 0 "" ∷ says "REL0+1" 3 "" ∷ says "JOGP0" 3 "" ∷ says "SCANP0" 9 "" ∷ says "ERRF?" 0 "0C" ∷ reads 0 8 5
+    ∷ reads 1 0 0 ∷ says "SCANN0" 9 "" ∷ reads 0 0 0 ∷ says "SCANN0" 0 "" ∷ [])
     ∷ []
 
 unread-checked : map seen unread ≡ map (λ c. map stated c) unread
@@ -146,7 +146,7 @@ pausing =
     ∷ reads 1 5 0 ∷ says "STS1?" 0 "R1S501+0000000" ∷ says "LOC" 0 "" ∷ reads 1 2 0 ∷ says "STS1?" 0 "L1S220+0000000" ∷ says "ESTP0" 0 "" ∷ says "STS0?" 0 "L0S680+0000000"
     ∷ says "PAUSE?" 0 "ON" ∷ ticks 0 cw 0 ∷ [])
     ∷ (reads 0 0 0 ∷ reads 1 0 0 ∷ says "REM" 0 "" ∷ says "SPDM01000" 0 "" ∷ says "SCANP0" 0 "" ∷ says "PAUSE ON" 0 "" ∷ says "JOGN1" 0 "" ∷ ticks 0 cw 1
-    ∷ says "LOC" 0 "" ∷ says "SPC1400" 4 "" ∷ says "PAUSE OFF" 4 "" ∷ says "PAUSE ON" 4 "" ∷ says "STS1?" 0 "L1S001+0000000" ∷ says "REM" 0 "" ∷ says "STS1?" 0 "R1S001+0000000" ∷ says "ASSTP" 0 ""
+    ∷ says "LOC" 0 "" ∷ says "SPC1400" 7 "" ∷ says "PAUSE OFF" 7 "" ∷ says "PAUSE ON" 7 "" ∷ says "STS1?" 0 "L1S001+0000000" ∷ says "REM" 0 "" ∷ says "STS1?" 0 "R1S001+0000000" ∷ says "ASSTP" 0 ""
     ∷ says "STS0?" 0 "R0S040+0000001" ∷ says "STS1?" 0 "R1S040+0000000" ∷ says "ALL_REP EN" 0 "OK" ∷ says "PAUSE OFF" 0 "OK" ∷ says "PAUSE?" 0 "OFF" ∷ says "PAUSE" 1 "COMMAND ERROR"
     ∷ says "PAUSE  ON" 1 "COMMAND ERROR" ∷ [])
     ∷ []

@@ -13,25 +13,26 @@ use mathlib.Core.Bool.{Bool, true, false, _&&_, not, cond, false≢true}
 use lib.ListN.{length, replicate, getD}
 use lib.Dec.{eqb, leb}
 use Rattle.digits.specs.Bytes.{put}
-use Rattle.digits.specs.Words.{wordBytes, withoutBit}
-use Rattle.digits.specs.Places.{origin, cw}
+use Rattle.digits.specs.Words.{wordBytes, withBit, withoutBit}
+use Rattle.digits.specs.Places.{origin, highest, cw}
 use Rattle.text.specs.Text.{bytes, same}
 use Rattle.record.specs.declared.Wiring.{Wiring}
 use Rattle.record.specs.declared.Drive.{Drive}
 use Rattle.record.specs.declared.Motor.{Motor}
-use Rattle.record.specs.Record.{withWiring, withDrive, withFraction, withSpeedInForce}
+use Rattle.record.specs.Record.{withPlace, withLimits, withWiring, withSetup, withDrive, withFraction, withSpeedInForce}
+use Rattle.motor.specs.Switches.{digital}
 use Rattle.motor.specs.Sound.{busy}
 use Rattle.drive.specs.Numbers.{numberOf}
 use Rattle.drive.specs.Drives.{selectedSpeed, released, stopped, contacted}
 use Rattle.line.specs.declared.Start.the-variants.{Rel, Scan}
 use Rattle.line.specs.declared.Setting.the-variants.{Preset, SetCwLimit}
 use Rattle.line.specs.declared.Question.the-variants.{AskStatus}
-use Rattle.line.specs.declared.HeadOrder.the-variants.{Mode}
+use Rattle.line.specs.declared.HeadOrder.the-variants.{Mode, Pause}
 use Rattle.line.specs.declared.Order.{Order}
-use Rattle.line.specs.declared.Order.the-variants.{Go, Stop, Set, ForHead}
+use Rattle.line.specs.declared.Order.the-variants.{Go, Stop, ChangeSpeed, Set, ForHead}
 use Rattle.line.specs.declared.Parsed.the-variants.{Is, Nothing}
 use Rattle.line.specs.Forms.{ssend, orderOf}
-use Rattle.table.specs.Layout.{headOf, withHead, withReply, withPause, motorAt, withMotor, withMotors, freshTable}
+use Rattle.table.specs.Layout.{headOf, withHead, withMode, withReply, withErrors, withPause, motorAt, withMotor, withMotors, freshTable}
 use Rattle.table.specs.Sound.{soundTable}
 use Rattle.commands.specs.Judging.{judge}
 use Rattle.commands.specs.Changing.{flagged}
@@ -39,13 +40,14 @@ use Rattle.obeying.specs.Taking.{CommandAfter}
 use Rattle.urqolina.specs.Calls.{TickAfter, freshCall, commandCall, readingCall, tickCall}
 use Rattle.laws.specs.Computing.{computing-laws}
 use Rattle.laws.specs.Sequences.{Library, Call, urqolina, command, reading, tick, After, Beginning, ran}
-use Rattle.laws.specs.Deeds.{Deed, starts, stops, speeds, sets, reads, ticks, pauses, rests, deed, isTick, orderTaken}
+use Rattle.laws.specs.Deeds.{Deed, starts, stops, speeds, sets, reads, ticks, pauses, rests, deed, isTick, verdict, orderTaken}
 use Rattle.laws.specs.Ledger.{countAt, Account, Travel}
-use Rattle.laws.specs.Numbers.{Numbers, Replies, sizesRight, asks}
+use Rattle.laws.specs.Numbers.{Numbers, Replies, sizesRight, starting, asks}
 use Rattle.laws.specs.Neighbours.{Neighbours}
 use Rattle.laws.specs.ReadBack.{ReadsBack, isSome}
 use Rattle.laws.specs.Pulses.{motorNow, accountNow, travelNow, settingsNow, Ends, byStop, bySwitch, byTarget, byRoom, Demand3, Settled}
 use Rattle.laws.specs.Contacts.{toldNow, Contacts}
+use Rattle.laws.proofs.NumberLaws.{numbers}
 use Rattle.cases.proofs.Beginnings.{lent, says, ticked, ready, running, underPause}
 
 -- Demand 3 for every channel and every sequence, and read-back for every sequence and every read that is lent enough.
@@ -550,13 +552,13 @@ numbered-other : (l : Library) (t line : List ℕ) (o : Order) (n m : ℕ) → s
 numbered-other l t line o n m sizes sound e f g other d =
     other (sym g ∙ d .judged t line (replicate 32 0xaa) o sizes sound e ∙ f)
 
--- The reading is asked for before the exit of REL 0, or before the target's range: what SCANP0 gives, 4, where 0 and 3 are due.
+-- The reading is asked for before the exit of REL 0, or before the target's range: what SCANP0 gives, 9, where 0 and 3 are due.
 pub unread-too-early-refused : (Numbers (takesFor "REL0+0" "SCANP0") → ⊥) × (Numbers (takesFor "REL0+1" "SCANP0") → ⊥)
 unfolding computing-laws
 unread-too-early-refused = (
-  numbered-other (takesFor "REL0+0" "SCANP0") unreadTable (bytes "REL0+0") (Go 0 (Rel (record { minus = false; digits = 0 }))) 0 4 refl refl refl refl refl
+  numbered-other (takesFor "REL0+0" "SCANP0") unreadTable (bytes "REL0+0") (Go 0 (Rel (record { minus = false; digits = 0 }))) 0 9 refl refl refl refl refl
       (λ e. absurd (omega (arith, e))),
-  numbered-other (takesFor "REL0+1" "SCANP0") unreadAtEnd (bytes "REL0+1") (Go 0 (Rel (record { minus = false; digits = 1 }))) 3 4 refl refl refl refl refl
+  numbered-other (takesFor "REL0+1" "SCANP0") unreadAtEnd (bytes "REL0+1") (Go 0 (Rel (record { minus = false; digits = 1 }))) 3 9 refl refl refl refl refl
       (λ e. absurd (omega (arith, e))),
 )
 
@@ -570,7 +572,7 @@ asksEnabled =
 pub asks-enabled-refused : Numbers asksEnabled → ⊥
 unfolding computing-laws
 asks-enabled-refused =
-    numbered-other asksEnabled (ran urqolina lent (says "REM" ∷ says "SETLS000000000" ∷ [])) (bytes "SCANP0") (Go 0 (Scan cw)) 4 0 refl refl refl refl refl
+    numbered-other asksEnabled (ran urqolina lent (says "REM" ∷ says "SETLS000000000" ∷ [])) (bytes "SCANP0") (Go 0 (Scan cw)) 9 0 refl refl refl refl refl
     (λ e. absurd (omega (arith, e)))
 
 -- Reads are answered as if the contacts were known, so that V is told from them: with SETLS001110111 all three switches would be
@@ -695,3 +697,94 @@ unfolding computing-laws
 holds-nothing-refused d =
     let fact : false ≡ true = d lent 0 (omega arith) (ready ++ (says "PAUSE ON" ∷ says "REL0+0" ∷ [])) .lasting in
     absurd (false≢true fact)
+
+-- 02 §5, "NG says too little", misread. The library that is ours but for the numbers that it gives, by the table and the line:
+abbrev pub renumbers : (List ℕ → List ℕ → ℕ → ℕ) → Library
+renumbers f =
+    withCommand
+    (λ t line reply.
+    let a = commandCall t line reply in
+    let n = a .result % 256 in
+    record { result = a .result - n + f t line n; table = a .table; reply = a .reply })
+
+-- What it gives to a line on a sound table, which our number n for it decides.
+module _ (f : List ℕ → List ℕ → ℕ → ℕ) (t line : List ℕ) (o : Order) (n m : ℕ) (sizes : sizesRight t (command line (replicate 32 0xaa)) ≡ true)
+    (sound : soundTable t ≡ true) (is : orderOf line ≡ Is o) (judged : numberOf (judge t o) ≡ n) (gives : f t line n ≡ m) (small : m ≤ 255) where
+  renumbered : renumbers f .command t line (replicate 32 0xaa) .result % 256 ≡ m
+  renumbered =
+      let ours : commandCall t line (replicate 32 0xaa) .result % 256 ≡ n = numbers .judged t line (replicate 32 0xaa) o sizes sound is ∙ judged in
+      rw (ours, gives) (omega (arith, ours, small))
+
+  -- It is refused where that is another number than the rules'.
+  renumbered-other : (m ≡ n → ⊥) → Numbers (renumbers f) → ⊥
+  renumbered-other other d = other (sym renumbered ∙ d .judged t line (replicate 32 0xaa) o sizes sound is ∙ judged)
+
+-- a fresh table in remote mode with another motor in channel 0
+abbrev holding : Motor → List ℕ
+holding m = withMotor (withHead freshTable (withMode (headOf freshTable) 1)) 0 m
+
+-- a motor at the end of the range with D = 1 and a limit
+abbrev ending : ℕ → Motor
+ending limit =
+    withPlace (withLimits (withWiring (motorAt freshTable 0) (record { setls = 0b11110000; contacts = 0; read = 1 })) (record { cw = limit; ccw = limit })) highest
+
+-- 11 wherever D = 1, and 12 only where the limit is the end of the range: "where both, 12".
+abbrev pub limitFirst : List ℕ → List ℕ → ℕ → ℕ
+limitFirst t line n = cond (eqb n 12 && digital (motorAt t 0 .wiring)) 11 n
+
+abbrev pub limitAtEnd : List ℕ → List ℕ → ℕ → ℕ
+limitAtEnd t line n = cond (eqb n 12 && not (eqb (motorAt t 0 .limits .cw) highest)) 11 n
+
+pub range-by-limit-refused : (Numbers (renumbers limitFirst) → ⊥) × (Numbers (renumbers limitAtEnd) → ⊥)
+unfolding computing-laws
+range-by-limit-refused = (
+  renumbered-other limitFirst (holding (ending highest)) (bytes "SCANP0") (Go 0 (Scan cw)) 12 11 refl refl refl refl refl (omega arith) (omega arith),
+  renumbered-other limitAtEnd (holding (ending origin)) (bytes "SCANP0") (Go 0 (Scan cw)) 12 11 refl refl refl refl refl (omega arith) (omega arith),
+)
+
+-- Local mode judged after the value, so that 3 is given where remote mode would give it: "7 keeps local mode's place".
+abbrev pub valueFirst : List ℕ → List ℕ → ℕ → ℕ
+valueFirst t line n = cond (eqb n 7 && eqb (numberOf (verdict (withHead t (withMode (headOf t) 1)) (orderOf line))) 3) 3 n
+
+pub value-first-refused : Numbers (renumbers valueFirst) → ⊥
+unfolding computing-laws
+value-first-refused =
+    renumbered-other valueFirst freshTable (bytes "PS0+9999999999") (Set 0 (Preset (record { minus = false; digits = 9999999999 }))) 7 3 refl refl refl refl refl
+    (omega arith) (omega arith)
+
+-- SPC that meets the checks of a start: "8 to 12 for starts only".
+abbrev pub changesAsStart : List ℕ → List ℕ → ℕ → ℕ
+changesAsStart t line n = cond (eqb n 13 && eqb (motorAt t 0 .setup .a) 0) 8 n
+
+pub changes-as-start-refused : Numbers (renumbers changesAsStart) → ⊥
+unfolding computing-laws
+changes-as-start-refused d =
+    let t = holding (withSetup (motorAt freshTable 0) (record { a = 0; b = 1; c = 0; d = 0 })) in
+    absurd (false≢true (d .starts t (bytes "SPC0500") (replicate 32 0xaa) 8 (omega arith) (omega arith)
+    (renumbered changesAsStart t (bytes "SPC0500") (ChangeSpeed 0 500) 13 8 refl refl refl refl refl (omega arith))))
+
+-- 4 left to lines that are no starts: it "is no longer given".
+abbrev pub fourLeft : List ℕ → List ℕ → ℕ → ℕ
+fourLeft t line n = cond (eqb n 7 && not (isSome starting (orderOf line))) 4 n
+
+pub four-left-refused : Numbers (renumbers fourLeft) → ⊥
+unfolding computing-laws
+four-left-refused d =
+    d .split freshTable (command (bytes "PAUSE ON") (replicate 32 0xaa))
+    (renumbered fourLeft freshTable (bytes "PAUSE ON") (ForHead (Pause 1)) 7 4 refl refl refl refl refl (omega arith))
+
+-- The flag is bit (number - 1): 7 would set bit 6 where bit 3 is due, and no later call would find the table sound.
+abbrev pub flagsInTurn : Library
+flagsInTurn =
+    withCommand
+    (λ t line reply.
+    let a = commandCall t line reply in
+    let n = a .result % 256 in
+    record { result = a .result; table = cond (leb 7 n) (withHead t (withErrors (headOf t) (withBit (n - 1) (headOf t .errors)))) (a .table); reply = a .reply })
+
+pub flags-in-turn-refused : Numbers flagsInTurn → ⊥
+unfolding computing-laws
+flags-in-turn-refused d =
+    let left = d .flags freshTable (bytes "SCANP0") (replicate 32 0) 7 refl refl in
+    let fact : _≡_ {A = ℕ} 64 8 = ap (λ (t : List ℕ). getD t 2 0) left in
+    absurd (omega (arith, fact))

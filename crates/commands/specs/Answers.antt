@@ -8,7 +8,8 @@ use Rattle.line.specs.declared.Order.the-variants.{Go, Stop, StopAll, ChangeSpe
 use Rattle.replies.specs.Replies.{echo, questionText, headText}
 use Rattle.table.specs.Layout.{headOf, motorAt}
 
--- "Other commands, and numbers 1 to 4, write their text if all-reply is on after the command"
+-- "Other commands, and numbers 1 to 4, write their text if all-reply is on after the command", where 4 "reads as the split numbers" (02
+-- §5)
 abbrev pub told : List ℕ → Verdict → List ℕ
 told t v = echo (headOf t .reply) v
 

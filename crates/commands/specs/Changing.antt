@@ -48,6 +48,6 @@ changed t (AskHead q) = t
 changed t (ForHead o) = withHead (motorsFreed t o) (headChanged (headOf t) o)
 
 -- the table after a refusal with a number: "Numbers 1 to 4 set error flag bits 0 to 3 in turn and change nothing else in the
--- table"
+-- table", where 4 "reads as the split numbers" (02 §5)
 unfoldable pub flagged : List ℕ → ℕ → List ℕ
 flagged t n = withHead t (withErrors (headOf t) (withBit (flagBit n) (headOf t .errors)))

@@ -24,7 +24,8 @@ meetsBusy t (Ask x q) = false
 meetsBusy t (AskHead q) = false
 meetsBusy t (ForHead h) = false
 
--- what is judged after busy: "target out of range .., the other causes of 4", which lie in the motor
+-- what is judged after busy: "target out of range .., the other causes of 4", which lie in the motor. 02 §5: "8 to 12 for starts only",
+-- and 13 for SPC
 unfoldable pub judgeMotor : List ℕ → Order → Verdict
 judgeMotor t (Go x s) = judgeStart (motorAt t x) (courseOf (motorAt t x) s)
 judgeMotor t (Stop x e) = Done
@@ -35,7 +36,8 @@ judgeMotor t (Ask x q) = Done
 judgeMotor t (AskHead q) = Done
 judgeMotor t (ForHead h) = Done
 
--- "Order: .. local mode, value, busy, target out of range .., the other causes of 4." 02 §3: "Refusals: none new"
+-- "Order: .. local mode, value, busy, target out of range .., the other causes of 4." 02 §3: "Refusals: none new". 02 §5: "7 keeps local
+-- mode's place"
 unfoldable pub judge : List ℕ → Order → Verdict
 judge t o =
     cond (needsRemote o && eqb (headOf t .mode) 0) LocalMode

@@ -3,12 +3,13 @@ use mathlib.Core.Path.{_≡_, refl}
 use mathlib.Core.List.{[], _∷_, map}
 use mathlib.Core.Bool.{true, false}
 use Prim.Native.Nat.{ℕ, _+_, _-_}
-use Rattle.digits.specs.Places.{origin, highest, cw, ccw}
+use lib.ListN.{replicate}
+use Rattle.digits.specs.Places.{origin, lowest, highest, cw, ccw}
 use Rattle.record.specs.declared.Motor.{Motor}
-use Rattle.record.specs.Record.{freshMotor, withLimits, withWiring, withSetup}
+use Rattle.record.specs.Record.{freshMotor, withPlace, withLimits, withWiring, withSetup}
 use Rattle.drive.specs.declared.Course.the-variants.{Stay, Beyond, To, Along}
-use Rattle.drive.specs.declared.Verdict.the-variants.{Done, NoForm, Busy, OutOfRange, LocalMode, Disabled, Unread, SwitchAhead, NoRoom, NotDriving, WrongSize, NotSound}
-use Rattle.drive.specs.Numbers.{numberOf, isRefusal, flagBit}
+use Rattle.drive.specs.declared.Verdict.the-variants.{Done, NoForm, Busy, OutOfRange, WrongSize, NotSound, LocalMode, Disabled, Unread, SwitchAhead, AtLimit, AtRangeEnd, NotDriving}
+use Rattle.drive.specs.Numbers.{numberOf, isSilent, isRefusal, flagBit}
 use Rattle.drive.specs.Drives.{courseTo, judgeStart, wellAimed, started, released, stopped, speedChanged, contacted, switchRead}
 use Rattle.drive.specs.Computing.{computing-drive}
 
@@ -23,12 +24,15 @@ wired setls contacts read = withWiring freshMotor (record { setls = setls; conta
 limited : ℕ → ℕ → Motor
 limited n read = withLimits (wired 0b11110000 0 read) (record { cw = origin + n; ccw = origin - 1000000 })
 
--- "Numbers 1 to 4 set error flag bits 0 to 3 in turn": these are the refusals, and 0, 5 and 6 are none.
+-- "Numbers 1 to 4 set error flag bits 0 to 3 in turn", 4 read as the numbers from 7 on, later ones too: these are the refusals. 0, 5 and 6
+-- are none, and nor is 4.
 flags :
-    (map flagBit (1 ∷ 2 ∷ 3 ∷ 4 ∷ []) ≡ 0 ∷ 1 ∷ 2 ∷ 3 ∷ [])
-    × (map isRefusal (0 ∷ 1 ∷ 2 ∷ 3 ∷ 4 ∷ 5 ∷ 6 ∷ []) ≡ false ∷ true ∷ true ∷ true ∷ true ∷ false ∷ false ∷ [])
+    (map flagBit (1 ∷ 2 ∷ 3 ∷ []) ≡ 0 ∷ 1 ∷ 2 ∷ [])
+    × (map flagBit (7 ∷ 8 ∷ 9 ∷ 10 ∷ 11 ∷ 12 ∷ 13 ∷ 14 ∷ 17 ∷ []) ≡ replicate 9 3)
+    × (map isRefusal (1 ∷ 2 ∷ 3 ∷ 7 ∷ 8 ∷ 9 ∷ 10 ∷ 11 ∷ 12 ∷ 13 ∷ 14 ∷ 17 ∷ []) ≡ replicate 12 true)
+    × (map isRefusal (0 ∷ 4 ∷ 5 ∷ 6 ∷ []) ≡ replicate 4 false) × (map isSilent (0 ∷ 1 ∷ 4 ∷ 5 ∷ 6 ∷ 7 ∷ []) ≡ false ∷ false ∷ false ∷ true ∷ true ∷ false ∷ [])
 unfolding computing-drive
-flags = (refl, refl)
+flags = (refl, refl, refl, refl, refl)
 
 -- A reading ends a drive only by the switch of its direction, with LSEND; HP and the other side end nothing.
 readings :
@@ -66,13 +70,13 @@ disabled : Motor
 disabled = withSetup freshMotor (record { a = 0; b = 1; c = 0; d = 0 })
 
 -- Starts of a stopped motor as they are judged: to the present place, whatever A says; past the range; with A = 0, unread besides;
--- onto an active switch; and with no room.
+-- onto an active switch; and onto a digital limit.
 starts :
     (courseTo freshMotor cw origin 0 ≡ Stay) × (judgeStart disabled Stay ≡ Done)
     × (courseTo freshMotor ccw origin 2147483648 ≡ Beyond) × (courseTo freshMotor cw (origin + 1) 2147483647 ≡ Beyond)
     × (courseTo freshMotor ccw (origin - 1) 2147483646 ≡ To 1) × (judgeStart disabled Beyond ≡ OutOfRange)
     × (judgeStart disabled (Along cw) ≡ Disabled) × (judgeStart (wired 0b00010001 0 1) (Along cw) ≡ SwitchAhead)
-    × (judgeStart (wired 0b00010001 0 1) (Along ccw) ≡ Done) × (judgeStart (limited 0 1) (To (origin + 9)) ≡ NoRoom)
+    × (judgeStart (wired 0b00010001 0 1) (Along ccw) ≡ Done) × (judgeStart (limited 0 1) (To (origin + 9)) ≡ AtLimit)
     × (judgeStart (limited 0 1) (To (origin - 9)) ≡ Done)
 unfolding computing-drive disabled wired limited
 starts = (refl, refl, refl, refl, refl, refl, refl, refl, refl, refl, refl)
@@ -88,10 +92,40 @@ unread-starts :
 unfolding computing-drive wired limited
 unread-starts = (refl, refl, refl, refl, refl)
 
--- "Numbers handed back", cause by cause, in the order of the list.
+-- a motor that was read, with the SETLS byte, at a place, with both limits at another
+bounded : ℕ → ℕ → ℕ → Motor
+bounded setls place limit = withPlace (withLimits (wired setls 0 1) (record { cw = limit; ccw = limit })) place
+
+-- one at the end of the range, with the digit A, the SETLS byte and open contacts, read or not
+atEnd : ℕ → ℕ → ℕ → Motor
+atEnd a setls read = withPlace (withSetup (wired setls 0 read) (record { a = a; b = 1; c = 0; d = 0 })) highest
+
+-- 02 §5: "no room because of a digital limit", and "because of the end of the range (where both, 12)", either way. With D = 1, at an end
+-- of the range, wherever the limit lies; with D = 0; inside the range, with the limit behind, where the motor stands, and ahead; and at
+-- the other end, where the range goes on.
+no-room :
+    (map (λ p. judgeStart (bounded 0b11110000 highest p) (Along cw)) (lowest ∷ origin ∷ highest ∷ []) ≡ replicate 3 AtRangeEnd)
+    × (map (λ p. judgeStart (bounded 0b11110000 lowest p) (Along ccw)) (lowest ∷ origin ∷ highest ∷ []) ≡ replicate 3 AtRangeEnd)
+    × (judgeStart (bounded 0b01110000 highest origin) (Along cw) ≡ AtRangeEnd) × (judgeStart (bounded 0b01110000 lowest origin) (Along ccw) ≡ AtRangeEnd)
+    × (map (λ p. judgeStart (bounded 0b11110000 (origin + 5) p) (Along cw)) (lowest ∷ (origin + 4) ∷ (origin + 5) ∷ (origin + 6) ∷ []) ≡ AtLimit ∷ AtLimit ∷ AtLimit ∷ Done ∷ [])
+    × (map (λ p. judgeStart (bounded 0b11110000 (origin + 5) p) (Along ccw)) (highest ∷ (origin + 6) ∷ (origin + 5) ∷ (origin + 4) ∷ []) ≡ AtLimit ∷ AtLimit ∷ AtLimit ∷ Done ∷ [])
+    × (judgeStart (bounded 0b11110000 lowest lowest) (Along cw) ≡ AtLimit) × (judgeStart (bounded 0b11110000 highest highest) (Along ccw) ≡ AtLimit)
+unfolding computing-drive bounded wired
+no-room = (refl, refl, refl, refl, refl, refl, refl, refl)
+
+-- 02 §5: "Refusals, in this order": a motor with A = 0 that was not read, with its CW switch N.C. and so active, at the end of the range,
+-- and then one cause after the other taken away. Out of range comes before all of them.
+ordered :
+    (judgeStart (atEnd 0 0b01110001 0) Beyond ≡ OutOfRange) × (judgeStart (atEnd 0 0b01110001 0) (Along cw) ≡ Disabled)
+    × (judgeStart (atEnd 1 0b01110001 0) (Along cw) ≡ Unread) × (judgeStart (atEnd 1 0b01110001 1) (Along cw) ≡ SwitchAhead)
+    × (judgeStart (atEnd 1 0b01110000 1) (Along cw) ≡ AtRangeEnd) × (judgeStart (atEnd 1 0b01110000 1) (Along ccw) ≡ Done)
+unfolding computing-drive atEnd wired
+ordered = (refl, refl, refl, refl, refl, refl)
+
+-- "Numbers handed back", cause by cause, in the order of the lists.
 numbers :
-    map numberOf (Done ∷ NoForm ∷ Busy ∷ OutOfRange ∷ LocalMode ∷ Disabled ∷ Unread ∷ SwitchAhead ∷ NoRoom ∷ NotDriving ∷ WrongSize ∷ NotSound ∷ [])
-    ≡ 0 ∷ 1 ∷ 2 ∷ 3 ∷ 4 ∷ 4 ∷ 4 ∷ 4 ∷ 4 ∷ 4 ∷ 5 ∷ 6 ∷ []
+    map numberOf (Done ∷ NoForm ∷ Busy ∷ OutOfRange ∷ WrongSize ∷ NotSound ∷ LocalMode ∷ Disabled ∷ Unread ∷ SwitchAhead ∷ AtLimit ∷ AtRangeEnd ∷ NotDriving ∷ [])
+    ≡ 0 ∷ 1 ∷ 2 ∷ 3 ∷ 5 ∷ 6 ∷ 7 ∷ 8 ∷ 9 ∷ 10 ∷ 11 ∷ 12 ∷ 13 ∷ []
 unfolding computing-drive
 numbers = refl
 

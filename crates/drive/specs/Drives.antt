@@ -8,9 +8,9 @@ use Rattle.record.specs.declared.Motor.{Motor}
 use Rattle.drive.specs.declared.Course.{Course}
 use Rattle.drive.specs.declared.Course.the-variants.{Stay, Beyond, To, Along}
 use Rattle.drive.specs.declared.Verdict.{Verdict}
-use Rattle.drive.specs.declared.Verdict.the-variants.{Done, OutOfRange, Disabled, Unread, SwitchAhead, NoRoom, NotDriving}
+use Rattle.drive.specs.declared.Verdict.the-variants.{Done, OutOfRange, Disabled, Unread, SwitchAhead, AtLimit, AtRangeEnd, NotDriving}
 use Rattle.record.specs.Record.{withWiring, withDrive, withSpeedInForce, letGo, standing}
-use Rattle.motor.specs.Switches.{unread, blocked, room}
+use Rattle.motor.specs.Switches.{unread, blocked, rangeEnd, room}
 use Rattle.motor.specs.Sound.{busy}
 
 -- "20h LSEND"
@@ -36,17 +36,23 @@ courseTo m going p n =
 unfoldable pub towards : Motor → ℕ → ℕ
 towards m p = cond (ltb (m .place) p) cw ccw
 
--- what keeps a stopped motor from leaving in a direction: "A = 0; an active enabled switch ahead; no room"; and, after A, 02 §2:
--- "a start on an unread channel is 4, after the target check"
+-- why there is none where there is "no room". 02 §5: "no room because of a digital limit", or "because of the end of the range (where
+-- both, 12)": whatever the limit, the range ends where the motor stands
+abbrev pub noRoom : Motor → ℕ → Verdict
+noRoom m going = cond (eqb (m .place) (rangeEnd going)) AtRangeEnd AtLimit
+
+-- what keeps a stopped motor from leaving in a direction: "A = 0; an active enabled switch ahead; no room". 02 §2: "a start on an unread
+-- channel is 4, after the target check". 02 §5: "in this order, 8 to 12 for starts only: .. 8 motor disabled, 9 contacts unread, 10
+-- enabled switch active ahead, 11 .., 12 .."
 unfoldable pub hindrance : Motor → ℕ → Verdict
 hindrance m going =
     cond (eqb (m .setup .a) 0) Disabled
     (cond (unread (m .wiring)) Unread
     (cond (blocked going m) SwitchAhead
-    (cond (eqb (room going m) 0) NoRoom
+    (cond (eqb (room going m) 0) (noRoom m going)
     Done)))
 
--- of a stopped motor: "target out of range (3, for REL and JOG ..), the other causes of 4"; ABS to the present position and
+-- of a stopped motor: "target out of range (3, for REL and JOG ..), the other causes of 4", which 02 §5 numbers 8 to 12; ABS to the present position and
 -- REL 0 "meet no later check"
 unfoldable pub judgeStart : Motor → Course → Verdict
 judgeStart m Stay = Done
@@ -87,7 +93,7 @@ endedWith flags m = withDrive m flags standing
 unfoldable pub stopped : ℕ → Motor → Motor
 stopped flags m = cond (busy m) (endedWith flags m) m
 
--- "4 .. SPC on a stopped motor"
+-- "SPC on a stopped motor": 02 §5 "13"
 abbrev pub judgeSpeedChange : Motor → Verdict
 judgeSpeedChange m = cond (busy m) Done NotDriving
 

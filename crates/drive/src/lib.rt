@@ -14,13 +14,14 @@ use digits::places::place_ahead;
 use motor::is_blocked;
 use motor::is_busy;
 use motor::is_unread;
+use motor::range_end;
 use motor::room_of;
 use record::Drive;
 use record::Motor;
 use record::Speeds;
 ghost use mathlib.Core.Path.{_≡_};
 ghost use Rattle.record.specs.Record.{withDrive};
-ghost use Rattle.drive.specs.Drives.{speedNumbered, courseTo, towards, hindrance, judgeStart, launched, started, released};
+ghost use Rattle.drive.specs.Drives.{speedNumbered, courseTo, towards, noRoom, hindrance, judgeStart, launched, started, released};
 ghost use Rattle.drive.specs.Drives.{endedWith, judgeSpeedChange, speedChanged, contacted, switchRead};
 
 // The end flag of a drive that a switch or the end of its room ended.
@@ -35,20 +36,21 @@ pub enum Course {
     Along(u8),
 }
 
-// How a call is judged. Each cause has its own name here, and specs/Numbers.antt gives the number for each.
+// How a call is judged. Each cause has its own name here, in the order of the numbers, which specs/Numbers.antt gives them.
 pub enum Verdict {
     Done,
     NoForm,
     Busy,
     OutOfRange,
+    WrongSize,
+    NotSound,
     LocalMode,
     Disabled,
     Unread,
     SwitchAhead,
-    NoRoom,
+    AtLimit,
+    AtRangeEnd,
     NotDriving,
-    WrongSize,
-    NotSound,
 }
 
 // The motor with other end flags and another drive.
@@ -91,6 +93,17 @@ fn direction_to(m: Motor, p: u32) -> u8
     if m.place < p { CW } else { CCW }
 }
 
+// Why a motor that has no room in a direction has none.
+fn no_room(m: Motor, going: u8) -> Verdict
+    ensures { λ r. ⌜ r ≡ noRoom m going ⌝ }
+{
+    if m.place == range_end(going) {
+        Verdict::AtRangeEnd
+    } else {
+        Verdict::AtLimit
+    }
+}
+
 // What keeps a stopped motor from leaving in a direction, or that nothing does.
 fn hindrance_to(m: Motor, going: u8) -> Verdict
     ensures { λ r. ⌜ r ≡ hindrance m going ⌝ }
@@ -105,7 +118,7 @@ fn hindrance_to(m: Motor, going: u8) -> Verdict
         return Verdict::SwitchAhead;
     }
     if room_of(going, m) == 0 {
-        return Verdict::NoRoom;
+        return no_room(m, going);
     }
     Verdict::Done
 }

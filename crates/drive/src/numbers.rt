@@ -15,7 +15,13 @@ pub fn number_of(v: Verdict) -> u32
         Verdict::OutOfRange => 3,
         Verdict::WrongSize => 5,
         Verdict::NotSound => 6,
-        _ => 4,
+        Verdict::LocalMode => 7,
+        Verdict::Disabled => 8,
+        Verdict::Unread => 9,
+        Verdict::SwitchAhead => 10,
+        Verdict::AtLimit => 11,
+        Verdict::AtRangeEnd => 12,
+        Verdict::NotDriving => 13,
     }
 }
 

@@ -1,14 +1,14 @@
 -- The ways that a call can go, for every table and all inputs, and the number that each of them gives. Assumes nothing.
 use mathlib.Core.Path.{_≡_, refl, sym, _∙_}
 use mathlib.Core.List.{List}
-use mathlib.Core.Bool.{Bool, true, false, _&&_, cond}
+use mathlib.Core.Bool.{Bool, true, false, _&&_, cond, false≢true}
 use Prim.Native.Nat.{ℕ, _%_, _≤_}
 use native.Mathlib.Omega.{arith}
 use lib.ListN.{length}
 use lib.Dec.{eqb, leb}
 use borrow.Author.Tests.{eq-eqb, eqb-true}
 use Rattle.drive.specs.declared.Verdict.{Verdict}
-use Rattle.drive.specs.Numbers.{numberOf, isRefusal}
+use Rattle.drive.specs.Numbers.{numberOf, isSilent, isRefusal}
 use Rattle.drive.specs.Drives.{switchRead}
 use Rattle.pulses.specs.Ticks.{tickMotor}
 use Rattle.line.specs.declared.Order.{Order}
@@ -52,21 +52,25 @@ sound-ways P t line reply s small bad good = go (leb 32 (length reply)) refl
     go true e = rw (eq-eqb (length t) tableSize (sound-length t s), e, s) (taken-ways P t reply (orderOf line) bad good)
     go false e = rw (eq-eqb (length t) tableSize (sound-length t s), e) small
 
--- a number that changes nothing: 5 and 6
+-- a number that changes nothing, 5 or 6: it is no refusal's, and a byte
 abbrev pub Silent : ℕ → Type 0
-Silent n = (n ≡ 0 → ⊥) × (isRefusal n ≡ false) × (n ≤ 255)
+Silent n = (isSilent n ≡ true) × (isRefusal n ≡ false) × (n ≤ 255)
+
+-- So a result with such a number is not one with another.
+pub silent-other : (k n : ℕ) → Silent k → isSilent n ≡ false → k % 256 ≡ n → ⊥
+silent-other k n h i e = let same : k ≡ n = omega (arith, h .2, e) in false≢true (sym i ∙ (rw same at (h .0)))
 
 -- On any table: a call is refused with such a number, or its sizes are right and the table is sound.
 ways : {A : Type 0} (P : A → Type 0) (sizes : Bool) (t : List ℕ) (left : ℕ → A) (done : A)
     → ((n : ℕ) → Silent n → P (left n)) → (sizes ≡ true → soundTable t ≡ true → P done)
     → P (cond (accepted (refusal sizes t)) done (left (numberOf (refusal sizes t))))
 unfolding numberOf
-ways P false t left done bad good = bad 5 (λ e. absurd (omega (arith, e)), refl, omega arith)
+ways P false t left done bad good = bad 5 (refl, refl, omega arith)
 ways P true t left done bad good = go (soundTable t) refl
   where
     go : (b : Bool) → soundTable t ≡ b → P (cond (accepted (refusal true t)) done (left (numberOf (refusal true t))))
     go true s = rw s (good refl s)
-    go false s = rw s (bad 6 (λ e. absurd (omega (arith, e)), refl, omega arith))
+    go false s = rw s (bad 6 (refl, refl, omega arith))
 
 -- a command, a reading and a tick
 pub command-ways : (P : CommandAfter → Type 0) (t line reply : List ℕ)

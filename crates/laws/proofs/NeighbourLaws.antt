@@ -42,7 +42,7 @@ use Rattle.laws.specs.Deeds.{Deed, starts, stops, speeds, sets, reads, t
 use Rattle.laws.specs.Neighbours.{ofHead, Neighbours}
 use Rattle.laws.specs.Numbers.{isCommand}
 use Rattle.laws.proofs.PartLaws.{motors-record}
-use Rattle.laws.proofs.CallWays.{command-ways, reading-ways, tick-ways}
+use Rattle.laws.proofs.CallWays.{silent-other, command-ways, reading-ways, tick-ways}
 use Rattle.obeying.proofs.NumberLaws.{refused-number}
 use Rattle.table.proofs.HeadLaws.{head-record}
 
@@ -168,7 +168,7 @@ unfolding obeyed
 let-go t line reply o d bytes h e q =
     let after = put (recordAt t d) 32 (motorAt t d .drive .going ∷ []) in
     let done : soundTable t ≡ true → recordAt (obeyedTable t (orderOf line)) d ≡ after = λ s. rw e (released-bytes t o d s bytes h q) in
-    command-ways (λ a. a .result % 256 ≡ 0 → recordAt (a .table) d ≡ after) t line reply (λ n i z. absurd (i .0 (omega (arith, z, i .2))))
+    command-ways (λ a. a .result % 256 ≡ 0 → recordAt (a .table) d ≡ after) t line reply (λ n i z. absurd (silent-other n 0 i refl z))
     (λ s v r z. absurd (false≢true (rw (sym (refused-number t v reply) ∙ z) at r))) (λ s p f z. rw f at (done s))
 
 -- A tick leaves that of a motor that does not move.

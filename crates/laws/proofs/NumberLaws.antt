@@ -1,19 +1,26 @@
 -- The numbers handed back, for every table and all inputs. Assumes nothing.
 use mathlib.Core.Path.{_≡_, refl, sym, _∙_}
 use mathlib.Core.List.{List, []}
-use mathlib.Core.Bool.{Bool, true, false, false≢true}
-use Prim.Native.Nat.{ℕ, _%_}
+use mathlib.Core.Bool.{Bool, true, false, _&&_, _||_, not, cond, false≢true}
+use Prim.Native.Nat.{ℕ, _%_, _≤_}
 use native.Mathlib.Omega.{arith}
 use lib.ListN.{length}
-use lib.Dec.{eqb}
-use borrow.Author.Tests.{eq-eqb, ne-eqb, eqb-true}
+use lib.Dec.{eqb, leb}
+use borrow.Author.Tests.{eq-eqb, ne-eqb, eqb-true, le-leb}
+use Rattle.motor.specs.Sound.{busy}
 use Rattle.drive.specs.declared.Verdict.{Verdict}
-use Rattle.drive.specs.Numbers.{numberOf, isRefusal}
+use Rattle.drive.specs.declared.Verdict.the-variants.{Done, Busy, OutOfRange, LocalMode, NotDriving}
+use Rattle.drive.specs.Numbers.{numberOf, isSilent, isRefusal}
+use Rattle.drive.proofs.NumberLaws.{numbered}
+use Rattle.line.specs.declared.Order.{Order}
+use Rattle.line.specs.declared.Order.the-variants.{Go, Stop, StopAll, ChangeSpeed, Set, Ask, AskHead, ForHead}
 use Rattle.line.specs.declared.Parsed.{Parsed}
 use Rattle.line.specs.declared.Parsed.the-variants.{Is, Nothing}
 use Rattle.line.specs.Forms.{orderOf}
-use Rattle.table.specs.Layout.{tableSize}
+use Rattle.table.specs.Layout.{tableSize, headOf, motorAt}
 use Rattle.table.specs.Sound.{soundTable}
+use Rattle.orders.specs.Values.{needsRemote, valueInRange}
+use Rattle.commands.specs.Judging.{meetsBusy, judgeMotor, judge}
 use Rattle.commands.specs.Changing.{flagged}
 use Rattle.obeying.specs.Taking.{refused, obeyed}
 use Rattle.obeying.proofs.NumberLaws.{refused-number, obeyed-number}
@@ -21,8 +28,9 @@ use Rattle.urqolina.specs.Calls.{commandCall}
 use Rattle.urqolina.proofs.Refusals.{fresh-made, fresh-refused, command-size, command-unsound, reading-size, reading-unsound, tick-size, tick-unsound, reading-accepted, tick-accepted}
 use Rattle.laws.specs.Sequences.{urqolina, Call, command, reading, tick, After, after}
 use Rattle.laws.specs.Deeds.{verdict, orderTaken}
-use Rattle.laws.specs.Numbers.{isCommand, lent, sizesRight, Numbers}
-use Rattle.laws.proofs.CallWays.{sound-ways, Silent, command-ways, reading-ways, tick-ways, line-number}
+use Rattle.laws.specs.ReadBack.{isSome}
+use Rattle.laws.specs.Numbers.{isCommand, lent, sizesRight, starting, Numbers}
+use Rattle.laws.proofs.CallWays.{sound-ways, Silent, silent-other, command-ways, reading-ways, tick-ways, line-number}
 
 -- A call with a wrong size gives 5, and one on a table that is not sound 6.
 sizes : (t : List ℕ) (k : Call) → sizesRight t k ≡ false → after urqolina t k ≡ record { result = 5; table = t; buffer = lent k }
@@ -44,17 +52,27 @@ done t (command line reply) c e s = absurd (false≢true (sym c))
 done t (reading x n) c e s = reading-accepted t x n e s
 done t (tick p) c e s = tick-accepted t p e s
 
--- where a call gives a number that is neither 0 nor a refusal's, that is its whole result, and the table t and the buffer b are
--- as they were
+-- where a call gives 5 or 6, that is its whole result, and the table t and the buffer b are as they were
 abbrev Left : List ℕ → List ℕ → After → Type 0
-Left t b a = (n : ℕ) → (n ≡ 0 → ⊥) → isRefusal n ≡ false → a .result % 256 ≡ n → a ≡ record { result = n; table = t; buffer = b }
+Left t b a = (n : ℕ) → isSilent n ≡ true → a .result % 256 ≡ n → a ≡ record { result = n; table = t; buffer = b }
 
 left : (t b : List ℕ) (k : ℕ) → Silent k → Left t b (record { result = k; table = t; buffer = b })
-left t b k h n z r e = let same : k ≡ n = omega (arith, h .2, e) in rw same
+left t b k h n z e = let same : k ≡ n = omega (arith, h .2, e) in rw same
 
--- No refusal has the number 0.
+-- Neither has the number 0, 5 and 6 nor a refusal; and no refusal is 5 or 6.
+silent-some : (n : ℕ) → isSilent n ≡ true → n ≡ 0 → ⊥
+silent-some n h e = false≢true (rw e at h)
+
 refusal-some : (n : ℕ) → isRefusal n ≡ true → n ≡ 0 → ⊥
 refusal-some n h e = false≢true (rw e at h)
+
+refusal-told : (n : ℕ) → isRefusal n ≡ true → isSilent n ≡ true → ⊥
+refusal-told n h = go (eqb n 5) refl (eqb n 6) refl
+  where
+    go : (a : Bool) → eqb n 5 ≡ a → (b : Bool) → eqb n 6 ≡ b → (a || b) ≡ true → ⊥
+    go true e b f s = false≢true (rw (eqb-true n 5 e) at h)
+    go false e true f s = false≢true (rw (eqb-true n 6 f) at h)
+    go false e false f s = false≢true s
 
 -- So does every call.
 nothing : (t : List ℕ) (k : Call) → Left t (lent k) (after urqolina t k)
@@ -62,14 +80,71 @@ unfolding after
 nothing t (command line reply) =
     command-ways (λ a. Left t reply (record { result = a .result; table = a .table; buffer = a .reply })) t line reply
     (λ k h. left t reply k h)
-    (λ s v h n z r e. absurd (false≢true (sym r ∙ (rw (sym (refused-number t v reply) ∙ e) at h))))
-    (λ s o q n z r e. absurd (z (sym e ∙ obeyed-number t o reply)))
+    (λ s v h n z e. absurd (refusal-told n (rw (sym (refused-number t v reply) ∙ e) at h) z))
+    (λ s o q n z e. absurd (silent-some n z (sym e ∙ obeyed-number t o reply)))
 nothing t (reading c x) =
     reading-ways (λ a. Left t [] (record { result = a .result; table = a .table; buffer = [] })) t c x (λ k h. left t [] k h)
-    (λ s h n z r e. absurd (z (omega (arith, e))))
+    (λ s h n z e. absurd (silent-some n z (sym e)))
 nothing t (tick p) =
     tick-ways (λ a. Left t p (record { result = a .result; table = a .table; buffer = a .pulses })) t p (λ k h. left t p k h)
-    (λ s n z r e. absurd (z (omega (arith, e))))
+    (λ s n z e. absurd (silent-some n z (sym e)))
+
+-- 4 is given by none.
+split : (t : List ℕ) (k : Call) → after urqolina t k .result % 256 ≡ 4 → ⊥
+unfolding after
+split t (command line reply) =
+    command-ways (λ a. a .result % 256 ≡ 4 → ⊥) t line reply (λ n h. silent-other n 4 h refl)
+    (λ s v h e. numbered v .split (sym (refused-number t v reply) ∙ e))
+    (λ s o q e. absurd (omega (arith, sym (obeyed-number t o reply) ∙ e)))
+split t (reading c x) = reading-ways (λ a. a .result % 256 ≡ 4 → ⊥) t c x (λ n h. silent-other n 4 h refl) (λ s h e. absurd (omega (arith, e)))
+split t (tick p) = tick-ways (λ a. a .result % 256 ≡ 4 → ⊥) t p (λ n h. silent-other n 4 h refl) (λ s e. absurd (omega (arith, e)))
+
+-- 8 to 12, the numbers of what keeps a motor from leaving; an order that is no start gets none of them, and nor does a line without form.
+abbrev hinders : ℕ → Bool
+hinders n = leb 8 n && leb n 12
+
+unhindered : (t : List ℕ) (o : Order) → starting o ≡ false → hinders (numberOf (judge t o)) ≡ false
+unfolding judge judgeMotor numberOf
+unhindered t o i =
+    one-of (needsRemote o && eqb (headOf t .mode) 0) LocalMode _ refl
+    (one-of (not (valueInRange o)) OutOfRange _ refl
+    (one-of (meetsBusy t o) Busy (judgeMotor t o) refl (by-motor o i)))
+  where
+    one-of : (b : Bool) (v w : Verdict) → hinders (numberOf v) ≡ false → hinders (numberOf w) ≡ false → hinders (numberOf (cond b v w)) ≡ false
+    one-of true v w hv hw = hv
+    one-of false v w hv hw = hw
+
+    by-motor : (o : Order) → starting o ≡ false → hinders (numberOf (judgeMotor t o)) ≡ false
+    by-motor (Go x s) i = absurd (false≢true (sym i))
+    by-motor (Stop x e) i = refl
+    by-motor (StopAll e) i = refl
+    by-motor (ChangeSpeed x v) i = one-of (busy (motorAt t x)) Done NotDriving refl refl
+    by-motor (Set x s) i = refl
+    by-motor (Ask x q) i = refl
+    by-motor (AskHead q) i = refl
+    by-motor (ForHead h) i = refl
+
+starts : (t line reply : List ℕ) (n : ℕ) → 8 ≤ n → n ≤ 12 → commandCall t line reply .result % 256 ≡ n → isSome starting (orderOf line) ≡ true
+starts t line reply n low high e = sized (sizesRight t (command line reply)) refl
+  where
+    judged : (p : Parsed) → hinders (numberOf (verdict t p)) ≡ true → isSome starting p ≡ true
+    judged Nothing h = absurd (false≢true (unfold numberOf in h))
+    judged (Is o) h = go (starting o) refl
+      where
+        go : (b : Bool) → starting o ≡ b → starting o ≡ true
+        go true i = i
+        go false i = absurd (false≢true (sym (unhindered t o i) ∙ h))
+
+    number : hinders n ≡ true
+    number = rw (le-leb 8 n low, le-leb n 12 high)
+
+    sound : sizesRight t (command line reply) ≡ true → (b : Bool) → soundTable t ≡ b → isSome starting (orderOf line) ≡ true
+    sound z true s = judged (orderOf line) (rw (sym (line-number t line reply z s) ∙ e) number)
+    sound z false s = absurd (omega (arith, low, rw (command-unsound t line reply z s) at e))
+
+    sized : (b : Bool) → sizesRight t (command line reply) ≡ b → isSome starting (orderOf line) ≡ true
+    sized true z = sound z (soundTable t) refl
+    sized false z = absurd (omega (arith, low, rw (command-size t line reply z) at e))
 
 -- A line that is refused sets its flag, and that is all.
 refused-flags : (t : List ℕ) (v : Verdict) (reply : List ℕ) (n : ℕ) → numberOf v ≡ n → refused t v reply .table ≡ flagged t n
@@ -108,6 +183,8 @@ numbers = record {
   formless = λ t line reply e s q. unfold numberOf in rw q at (line-number t line reply e s);
   judged = λ t line reply o e s q. rw q at (line-number t line reply e s);
   done = done;
+  starts = starts;
+  split = split;
   flags = flags;
   nothing = nothing;
   accepts = λ t line reply o s e. eqb-true _ 0 (decides t line reply s ∙ rw e);

@@ -43,7 +43,7 @@ module _ (l : Library) (b : Beginning) (c : ℕ) (ks : List Call) where
     -- "0 unknown, with contacts 0; 1 read": fresh's until the first accepted reading, and from then on the last one's, and 1
     pub contacts : motorNow l b c ks .wiring .contacts ≡ toldNow .contacts
     pub read : motorNow l b c ks .wiring .read ≡ toldNow .read
-    -- "a start on an unread channel is 4": without an accepted reading a channel gets no pulse
+    -- "a start on an unread channel is 4", 9 by 02 §5: without an accepted reading a channel gets no pulse
     pub none : toldNow .read ≡ 0 → (p : List ℕ) → length p ≡ 64 → countAt (l .tick (tableNow l b c ks) p .pulses) c ≡ 0
     -- and its position is its last accepted preset, or zero
     pub place : toldNow .read ≡ 0 → motorNow l b c ks .place ≡ travelNow l b c ks .preset

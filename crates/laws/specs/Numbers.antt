@@ -6,7 +6,7 @@ use Prim.Native.Nat.{ℕ, _+_, _*_, _%_, _≤_}
 use lib.ListN.{length}
 use lib.Dec.{eqb, leb}
 use Rattle.digits.specs.Bytes.{put}
-use Rattle.drive.specs.Numbers.{numberOf, isRefusal}
+use Rattle.drive.specs.Numbers.{numberOf, isSilent, isRefusal}
 use Rattle.drive.specs.Drives.{switchRead}
 use Rattle.pulses.specs.Ticks.{tickMotor}
 use Rattle.line.specs.declared.Question.{Question}
@@ -43,6 +43,17 @@ sizesRight t (command line reply) = eqb (length t) tableSize && leb 32 (length r
 sizesRight t (reading c n) = eqb (length t) tableSize && leb c 15 && leb n 7
 sizesRight t (tick p) = eqb (length t) tableSize && eqb (length p) 64
 
+-- an order is a start
+abbrev pub starting : Order → Bool
+starting (Go x s) = true
+starting (Stop x flags) = false
+starting (StopAll flags) = false
+starting (ChangeSpeed x v) = false
+starting (Set x s) = false
+starting (Ask x q) = false
+starting (AskHead q) = false
+starting (ForHead h) = false
+
 -- Demands 1 and 2, the numbers, on any table whatever it holds. "The command's result is the number plus 256 times the reply
 -- length"; a reading's and a tick's is the number.
 pub record Numbers (l : Library) : Type 0 where
@@ -52,19 +63,21 @@ pub record Numbers (l : Library) : Type 0 where
   -- "Order: 5, 6, ..": they come first, and "change nothing anywhere". "A refused tick (5 or 6) .. gives no pulse".
   pub sizes : (t : List ℕ) (k : Call) → sizesRight t k ≡ false → after l t k ≡ record { result = 5; table = t; buffer = lent k }
   pub unsound : (t : List ℕ) (k : Call) → sizesRight t k ≡ true → soundTable t ≡ false → after l t k ≡ record { result = 6; table = t; buffer = lent k }
-  -- "1, local mode, value, busy, target out of range .., the other causes of 4": what the rules judge
+  -- "1, local mode, value, busy, target out of range .., the other causes of 4", which are split (02 §5): what the rules judge
   pub formless : (t line reply : List ℕ) → sizesRight t (command line reply) ≡ true → soundTable t ≡ true → orderOf line ≡ Nothing
       → l .command t line reply .result % 256 ≡ 1
   pub judged : (t line reply : List ℕ) (o : Order) → sizesRight t (command line reply) ≡ true → soundTable t ≡ true → orderOf line ≡ Is o
       → l .command t line reply .result % 256 ≡ numberOf (judge t o)
   -- a reading and a tick have nothing more to refuse
   pub done : (t : List ℕ) (k : Call) → isCommand k ≡ false → sizesRight t k ≡ true → soundTable t ≡ true → after l t k .result ≡ 0
-  -- "Numbers 1 to 4 set error flag bits 0 to 3 in turn and change nothing else in the table"
+  -- 02 §5: "8 to 12 for starts only"; "4 is no longer given", by any call
+  pub starts : (t line reply : List ℕ) (n : ℕ) → 8 ≤ n → n ≤ 12 → l .command t line reply .result % 256 ≡ n → isSome starting (orderOf line) ≡ true
+  pub split : (t : List ℕ) (k : Call) → after l t k .result % 256 ≡ 4 → ⊥
+  -- "Numbers 1 to 4 set error flag bits 0 to 3 in turn and change nothing else in the table": 1, 2, 3 and, by 02 §5, those from 7 on
   pub flags : (t line reply : List ℕ) (n : ℕ) → isRefusal n ≡ true → l .command t line reply .result % 256 ≡ n
       → l .command t line reply .table ≡ flagged t n
-  -- "5 and 6 change nothing anywhere", whenever they come, and no reply is counted: so of every number that is neither 0 nor one of
-  -- those
-  pub nothing : (t : List ℕ) (k : Call) (n : ℕ) → (n ≡ 0 → ⊥) → isRefusal n ≡ false → after l t k .result % 256 ≡ n
+  -- "5 and 6 change nothing anywhere", whenever they come, and no reply is counted
+  pub nothing : (t : List ℕ) (k : Call) (n : ℕ) → isSilent n ≡ true → after l t k .result % 256 ≡ n
       → after l t k ≡ record { result = n; table = t; buffer = lent k }
   -- the orders that `Deeds` takes for accepted are those that get 0
   pub accepts : (t line reply : List ℕ) (o : Order) → soundTable t ≡ true → orderTaken t (command line reply) ≡ Is o → l .command t line reply .result % 256 ≡ 0
@@ -90,7 +103,7 @@ module _ (l : Library) (t line reply : List ℕ) (sound : soundTable t ≡ true)
     pub headReads : (q : HeadQuestion) → orderOf line ≡ Is (AskHead q) → let text = headText (headOf t) q in
         after l t (command line reply) ≡ record { result = 256 * length text; table = t; buffer = put reply 0 text }
     -- "Other commands, and numbers 1 to 4, write their text if all-reply is on after the command, else nothing. Bytes past the reply
-    -- stay as they were."
+    -- stay as they were." 4 "reads as the split numbers" (02 §5).
     pub others : isSome asks (orderOf line) ≡ false
         → let a = after l t (command line reply) in let text = echo (headOf (a .table) .reply) (verdict t (orderOf line)) in
         (a .result ≡ numberOf (verdict t (orderOf line)) + 256 * length text) × (a .buffer ≡ put reply 0 text)

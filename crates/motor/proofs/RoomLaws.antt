@@ -8,7 +8,7 @@ use borrow.Author.Tests.{leb-true, leb-false, le-leb, lt-leb}
 use Rattle.digits.specs.Places.{lowest, highest, isPosition, moved, ahead, cw}
 use Rattle.record.specs.declared.Motor.{Motor}
 use Rattle.record.specs.Record.{withPlace}
-use Rattle.motor.specs.Switches.{digital, edge, room}
+use Rattle.motor.specs.Switches.{digital, rangeEnd, edge, room}
 use Rattle.motor.specs.Sound.{limitsInRange}
 use Rattle.motor.proofs.SoundLaws.{and-l, and-r, and-true, or-true, or-false, InRange, position-bounds, bounds-position}
 
@@ -61,7 +61,7 @@ both a b n e = go (leb 1 a) refl (leb 1 b) refl
 -- A motor has a pulse of room where the end of the range lies ahead and, if D = 1, the digital limit.
 pub room-ahead : (going : ℕ) (m : Motor)
     → leb 1 (room going m)
-    ≡ (leb 1 (ahead going (m .place) (cond (eqb going cw) highest lowest))
+    ≡ (leb 1 (ahead going (m .place) (rangeEnd going))
     && (leb 1 (ahead going (m .place) (cond (eqb going cw) (m .limits .cw) (m .limits .ccw))) || not (digital (m .wiring))))
 unfolding room edge
 room-ahead going m = go (eqb going cw) (digital (m .wiring))

@@ -39,6 +39,10 @@ active s w = (closed s w && not (normallyClosed s w)) || (not (closed s w) && no
 unfoldable pub blocked : ℕ → Motor → Bool
 blocked going m = enabled (switchOf going) (m .wiring) && active (switchOf going) (m .wiring)
 
+-- "the end of the range" in a direction: "+2,147,483,647" CW, "-2,147,483,647" CCW
+abbrev pub rangeEnd : ℕ → ℕ
+rangeEnd going = cond (eqb going cw) highest lowest
+
 -- the last place that a motor may reach: "the smaller of +2,147,483,647 and, if D = 1, the CW digital limit", or "the
 -- larger of -2,147,483,647 and, if D = 1, the CCW digital limit". "Limits may cross; each direction looks only at its own."
 unfoldable pub edge : ℕ → Motor → ℕ

@@ -34,9 +34,9 @@ ghost use lib.Bits.{bitAnd};
 ghost use lib.ListN.{length};
 ghost use Rattle.digits.specs.Bytes.{part, allZero};
 ghost use Rattle.digits.specs.Words.{word};
-ghost use Rattle.digits.specs.Places.{cw, lowest, highest, isPosition};
+ghost use Rattle.digits.specs.Places.{cw, isPosition};
 ghost use Rattle.record.specs.Record.{motorOf};
-ghost use Rattle.motor.specs.Switches.{switchOf, unread, active, blocked, edge, room};
+ghost use Rattle.motor.specs.Switches.{switchOf, unread, active, blocked, rangeEnd, edge, room};
 ghost use Rattle.motor.specs.Sound.{isSpeed, limitsInRange, wiringInRange, setupInRange, settingsInRange, endFlagsInRange};
 ghost use Rattle.motor.specs.Sound.{busy, moving, soundUnder};
 ghost use Rattle.motor.specs.Judged.{fieldsRight, clearAhead, aimed, free, drivesRight, wayAllowed, drivingJudged, told, standingJudged};
@@ -211,13 +211,14 @@ fn settings_in_range(b: &[u8]) -> bool
     }
 }
 
-// The end of the range in a direction, and the digital limit that the direction looks at.
-fn end_of(going: u8) -> u32
-    ensures { λ r. ⌜ r ≡ cond (eqb going cw) highest lowest ⌝ }
+// The end of the range in a direction.
+pub fn range_end(going: u8) -> u32
+    ensures { λ r. ⌜ r ≡ rangeEnd going ⌝ }
 {
     if going == CW { HIGHEST } else { LOWEST }
 }
 
+// The digital limit that a direction looks at.
 fn limit_of(going: u8, l: Limits) -> u32
     ensures { λ r. ⌜ r ≡ cond (eqb going cw) (l .cw) (l .ccw) ⌝ }
 {
@@ -230,7 +231,7 @@ fn has_room(going: u8, m: Motor) -> bool
     ensures { λ r. ⌜ r ≡ leb 1 (room going m) ⌝ }
 {
     let limits = m.limits;
-    if lies_ahead(going, m.place, end_of(going)) {
+    if lies_ahead(going, m.place, range_end(going)) {
         if lies_ahead(going, m.place, limit_of(going, limits)) {
             true
         } else {

@@ -10,23 +10,23 @@ use Rattle.record.specs.declared.Wiring.{Wiring}
 use Rattle.record.specs.declared.Motor.{Motor}
 use Rattle.record.specs.Record.{freshMotor, standing, withPlace, withSpeeds, withWiring, withSetup, withDrive}
 use Rattle.drive.specs.declared.Course.the-variants.{To, Along}
-use Rattle.drive.specs.declared.Verdict.the-variants.{Done, NoForm, Busy, OutOfRange, LocalMode, Disabled, Unread, SwitchAhead, NoRoom, NotDriving, WrongSize, NotSound}
+use Rattle.drive.specs.declared.Verdict.the-variants.{Done, NoForm, Busy, OutOfRange, WrongSize, NotSound, LocalMode, Disabled, Unread, SwitchAhead, AtLimit, AtRangeEnd, NotDriving}
 use Rattle.drive.specs.Drives.{started, released, stopped, contacted}
 use Rattle.table.specs.declared.head.Head.{Head}
 use Rattle.table.specs.Layout.{withPause}
 use Rattle.line.specs.declared.Question.the-variants.{AskPosition, AskCwLimit, AskCcwLimit, AskSelected, AskSpeed, AskSwitches, AskMotor, AskStatus}
 use Rattle.line.specs.declared.HeadQuestion.the-variants.{AskAllReply, AskFlags, AskError, AskPause}
-use Rattle.replies.specs.Replies.{echo, headText, questionText}
+use Rattle.replies.specs.Replies.{textOf, echo, headText, questionText}
 use Rattle.replies.specs.Computing.{computing-replies}
 
--- Every verdict has its text where all-reply is on: 5 and 6 have none.
+-- Every verdict has its text where all-reply is on: 5 and 6 have none. Numbers that no verdict has yet have NG.
 texts :
     (map (echo 1) (Done ∷ NoForm ∷ Busy ∷ OutOfRange ∷ [])
     ≡ bytes "OK" ∷ bytes "COMMAND ERROR" ∷ bytes "MCC06 BUSY ERROR" ∷ bytes "PARAMETER ERROR" ∷ [])
-    × (map (echo 1) (LocalMode ∷ Disabled ∷ Unread ∷ SwitchAhead ∷ NoRoom ∷ NotDriving ∷ []) ≡ replicate 6 (bytes "NG"))
-    × (map (echo 1) (WrongSize ∷ NotSound ∷ []) ≡ [] ∷ [] ∷ [])
+    × (map (echo 1) (LocalMode ∷ Disabled ∷ Unread ∷ SwitchAhead ∷ AtLimit ∷ AtRangeEnd ∷ NotDriving ∷ []) ≡ replicate 7 (bytes "NG"))
+    × (map (echo 1) (WrongSize ∷ NotSound ∷ []) ≡ [] ∷ [] ∷ []) × (map textOf (14 ∷ 15 ∷ 16 ∷ 17 ∷ []) ≡ replicate 4 (bytes "NG"))
 unfolding computing-replies
-texts = (refl, refl, refl)
+texts = (refl, refl, refl, refl)
 
 -- Where it is off, no verdict has one.
 silent : map (echo 0) (Done ∷ NoForm ∷ Busy ∷ OutOfRange ∷ LocalMode ∷ NotDriving ∷ []) ≡ replicate 6 []

@@ -1,7 +1,7 @@
 -- Document 01, "Numbers handed back": what is answered.
 use Prim.Native.Nat.{ℕ}
 use mathlib.Core.List.{List, [], _∷_}
-use mathlib.Core.Bool.{_||_, cond}
+use mathlib.Core.Bool.{cond}
 use lib.Dec.{eqb}
 use Rattle.digits.specs.Words.{bit, isSet}
 use Rattle.digits.specs.Places.{cw}
@@ -10,7 +10,7 @@ use Rattle.record.specs.declared.Setup.{Setup}
 use Rattle.record.specs.declared.Motor.{Motor}
 use Rattle.status.specs.Status.{positionText, statusText}
 use Rattle.drive.specs.declared.Verdict.{Verdict}
-use Rattle.drive.specs.Numbers.{numberOf}
+use Rattle.drive.specs.Numbers.{numberOf, isSilent}
 use Rattle.drive.specs.Drives.{speedNumbered}
 use Rattle.table.specs.declared.head.Head.{Head}
 use Rattle.table.specs.Layout.{paused}
@@ -19,14 +19,15 @@ use Rattle.line.specs.declared.Question.the-variants.{AskPosition, AskCwLimit, 
 use Rattle.line.specs.declared.HeadQuestion.{HeadQuestion}
 use Rattle.line.specs.declared.HeadQuestion.the-variants.{AskAllReply, AskFlags, AskError, AskPause}
 
--- "No. | Text": the text for each number; 5 and 6 have "none", and what is left over has NG
+-- "No. | Text": the text for each number; 5 and 6 have "none". 02 §5: "the text stays NG .., also for later command numbers": NG is the
+-- text of every number that is left over
 unfoldable pub textOf : ℕ → List ℕ
 textOf n =
     cond (eqb n 0) (bytes "OK")
     (cond (eqb n 1) (bytes "COMMAND ERROR")
     (cond (eqb n 2) (bytes "MCC06 BUSY ERROR")
     (cond (eqb n 3) (bytes "PARAMETER ERROR")
-    (cond (eqb n 5 || eqb n 6) []
+    (cond (isSilent n) []
     (bytes "NG")))))
 
 -- "speeds, at least 6"
@@ -67,8 +68,8 @@ errorText e =
     (cond (isSet 3 e) (bytes "OTHER ERROR")
     (bytes "NO ERROR"))))
 
--- "Other commands, and numbers 1 to 4, write their text if all-reply is on after the command, else nothing": `all` is the
--- head's all-reply after the command
+-- "Other commands, and numbers 1 to 4, write their text if all-reply is on after the command, else nothing", where 4 "reads as the split
+-- numbers" (02 §5): every number but 5 and 6. `all` is the head's all-reply after the command
 unfoldable pub echo : ℕ → Verdict → List ℕ
 echo all v = cond (eqb all 1) (textOf (numberOf v)) []
 

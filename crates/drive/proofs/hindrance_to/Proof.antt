@@ -29,11 +29,14 @@ returns-3 c =
 room-of-requires : tie.Need-room-of-requires
 room-of-requires c κs = search needs
 
+no-room-requires : tie.Need-no-room-requires
+no-room-requires c κs = search needs
+
 returns-4 : tie.Need-returns-4
 unfolding hindrance
 returns-4 c =
-    let none : c .before .room-of .result ≡ 0 = omega arith in
-    rw (ne-eqb _ _ (c .before .before .before .before .before .before .if1 .left), ← c .before .before .before .before .before .is-unread .ensures, c .before .before .before .before .if2 .left, ← c .before .before .before .is-blocked .ensures, c .before .before .if3 .left, ← c .before .room-of .ensures, eq-eqb _ _ none)
+    let none : c .before .before .room-of .result ≡ 0 = omega arith in
+    rw (ne-eqb _ _ (c .before .before .before .before .before .before .before .if1 .left), ← c .before .before .before .before .before .before .is-unread .ensures, c .before .before .before .before .before .if2 .left, ← c .before .before .before .before .is-blocked .ensures, c .before .before .before .if3 .left, ← c .before .before .room-of .ensures, eq-eqb _ _ none, ← c .no-room .ensures)
 
 returns-5 : tie.Need-returns-5
 unfolding hindrance
@@ -51,5 +54,6 @@ hindrance-to-spec =
     is-blocked-requires
     returns-3
     room-of-requires
+    no-room-requires
     returns-4
     returns-5)

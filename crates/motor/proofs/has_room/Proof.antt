@@ -4,8 +4,8 @@ use borrow.Author.Needs.{needs}
 use Rattle.motor.proofs.has_room.Statement.{statement}
 use Rattle.motor.proofs.has_room.Tie as tie
 
-end-of-requires : tie.Need-end-of-requires
-end-of-requires c κs = search needs
+range-end-requires : tie.Need-range-end-requires
+range-end-requires c κs = search needs
 
 lies-ahead-requires : tie.Need-lies-ahead-requires
 lies-ahead-requires c κs = search needs
@@ -20,13 +20,13 @@ is-set-requires : tie.Need-is-set-requires
 is-set-requires c κs = search needs
 
 returns : tie.Need-returns
-returns c = let a = c .before .before .before .before .before .before .before .args in rw (room-ahead (a .going) (a .m), ← c .before .before .before .before .before .end-of .ensures, ← c .before .before .before .before .lies-ahead .ensures, c .before .before .before .if1 .taken, ← c .before .before .limit-of .ensures, ← c .before .lies-ahead2 .ensures, c .if2 .taken)
+returns c = let a = c .before .before .before .before .before .before .before .args in rw (room-ahead (a .going) (a .m), ← c .before .before .before .before .before .range-end .ensures, ← c .before .before .before .before .lies-ahead .ensures, c .before .before .before .if1 .taken, ← c .before .before .limit-of .ensures, ← c .before .lies-ahead2 .ensures, c .if2 .taken)
 
 returns-2 : tie.Need-returns-2
-returns-2 c = let a = c .before .before .before .before .before .before .before .before .args in rw (room-ahead (a .going) (a .m), ← c .before .before .before .before .before .before .end-of .ensures, ← c .before .before .before .before .before .lies-ahead .ensures, c .before .before .before .before .if1 .taken, ← c .before .before .before .limit-of .ensures, ← c .before .before .lies-ahead2 .ensures, c .before .if2 .left, c .is-set .ensures)
+returns-2 c = let a = c .before .before .before .before .before .before .before .before .args in rw (room-ahead (a .going) (a .m), ← c .before .before .before .before .before .before .range-end .ensures, ← c .before .before .before .before .before .lies-ahead .ensures, c .before .before .before .before .if1 .taken, ← c .before .before .before .limit-of .ensures, ← c .before .before .lies-ahead2 .ensures, c .before .if2 .left, c .is-set .ensures)
 
 returns-3 : tie.Need-returns-3
-returns-3 c = let a = c .before .before .before .before .args in rw (room-ahead (a .going) (a .m), ← c .before .before .end-of .ensures, ← c .before .lies-ahead .ensures, c .if1 .left)
+returns-3 c = let a = c .before .before .before .before .args in rw (room-ahead (a .going) (a .m), ← c .before .before .range-end .ensures, ← c .before .lies-ahead .ensures, c .if1 .left)
 
 pub has-room-spec : {M : Type 1} → statement M
-has-room-spec = tie.close (tie.spec end-of-requires lies-ahead-requires limit-of-requires lies-ahead-requires-2 is-set-requires returns returns-2 returns-3)
+has-room-spec = tie.close (tie.spec range-end-requires lies-ahead-requires limit-of-requires lies-ahead-requires-2 is-set-requires returns returns-2 returns-3)
