@@ -146,6 +146,47 @@ static void make_room(struct draw *d, uint8_t *record, int64_t sign)
         put(limit, (uint32_t)within(position + sign * (1 + (int64_t)draw_below(d, 6000))));
 }
 
+/* Makes the switch of a direction active and enabled: by its contact, or where that is unknown by its polarity. */
+static void make_active(uint8_t *record, unsigned bit)
+{
+    record[SETLS] = (uint8_t)(record[SETLS] | 0x10u << bit);
+    release(record, bit);
+    if (record[READ] == 1)
+        record[CONTACTS] = (uint8_t)(record[CONTACTS] ^ 1u << bit);
+    else {
+        record[CONTACTS] = 0;
+        record[SETLS] = (uint8_t)(record[SETLS] | 1u << bit);
+    }
+}
+
+/* One of the causes for which a start in a direction is refused: A = 0, contacts unknown, an active enabled switch, a digital limit at
+   the position or behind it, the end of the range. */
+static void put_cause(struct draw *d, uint8_t *record, bool cw)
+{
+    int64_t sign = cw ? 1 : -1;
+    switch (draw_below(d, 5)) {
+    case 0: record[SETMT] = 0; break;
+    case 1: record[READ] = record[CONTACTS] = 0; break;
+    case 2: make_active(record, cw ? 0 : 1); break;
+    case 3:
+        record[SETLS] |= 0x80;
+        put(record + (cw ? CW_LIMIT : CCW_LIMIT), (uint32_t)within(position_at(record + POSITION) - sign * (int64_t)draw_below(d, 3)));
+        break;
+    default: put(record + POSITION, (uint32_t)(sign * END)); break;
+    }
+}
+
+/* A stopped motor that can leave in a direction, but for one cause or two, or none. */
+static void draw_causes(struct draw *d, uint8_t *record)
+{
+    bool cw = draw_once_in(d, 2);
+    record[SETMT] = record[READ] = 1;
+    release(record, cw ? 0 : 1);
+    make_room(d, record, cw ? 1 : -1);
+    for (uint32_t k = draw_below(d, 3); k > 0; k--)
+        put_cause(d, record, cw);
+}
+
 /* A drive, of a channel that was read: a scan, or to a target that is often one ahead; the fraction often 999. Under pause it is held
    half the time. */
 static void draw_drive(struct draw *d, uint8_t *record, bool paused)
@@ -184,8 +225,11 @@ void draw_sound_table(struct draw *d, uint8_t *table)
         draw_settings(d, record);
         if (draw_below(d, 4) < driving)
             draw_drive(d, record, table[PAUSE] == 1);
-        else
+        else {
             record[ENDED] = ends[draw_below(d, 4)];
+            if (draw_once_in(d, 2))
+                draw_causes(d, record);
+        }
     }
 }
 
@@ -213,7 +257,7 @@ void draw_damage(struct draw *d, uint8_t *table)
 }
 
 /*
- * The forms. x stands for a channel, s for a number that may have a sign, u for one that may not, y for a digit that is mostly
+ * The forms, the starts first. x stands for a channel, s for a number that may have a sign, u for one that may not, y for a digit that is mostly
  * 0 or 1, z for one that is mostly 0, e for any digit.
  */
 static const char *const forms[] = {
@@ -222,6 +266,7 @@ static const char *const forms[] = {
     "PS?x",   "FL?x",   "BL?x",   "SPD?x",  "SPDH?x", "SPDM?x", "SPDL?x",     "SETLS?x",    "SETMT?x",        "STSx?",
     "LOC",    "REM",    "ERRF?",  "ERR?",   "ERRC",   "ERRCe",  "ALL_REP EN", "ALL_REP DS", "SETLSxyyyy0yyy", "SETMTxyyzy",
     "ALL_REP?", "PAUSE ON", "PAUSE OFF", "PAUSE?"};
+enum { STARTS = 6 };
 
 /* A signed number: near the channel's position, its limits or the ends of the range, small, or anything. */
 static int64_t draw_signed(struct draw *d, const uint8_t *record)
@@ -316,7 +361,7 @@ size_t draw_line(struct draw *d, const uint8_t *table, uint8_t *line)
     /* A few channels are named more often than the others, so that lines meet on them. */
     static const uint8_t often[] = {0, 0, 5, 11, 15};
     uint32_t channel = draw_once_in(d, 4) ? draw_below(d, 16) : often[draw_below(d, sizeof often)];
-    const char *form = forms[draw_below(d, sizeof forms / sizeof forms[0])];
+    const char *form = forms[draw_below(d, draw_once_in(d, 6) ? STARTS : sizeof forms / sizeof forms[0])];
     uint8_t *at = line;
     if (table[MODE] == 0 && draw_once_in(d, 3))
         form = "REM";

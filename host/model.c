@@ -1,5 +1,5 @@
 /*
- * Document 01 as amended by §1 to §3 of document 02, in plain C, written from the documents alone. It is compared with
+ * Document 01 as amended by §1 to §5 of document 02, in plain C, written from the documents alone. It is compared with
  * the proved library call by call, and the library's speed is measured beside it. Words in quotation marks are document
  * 01's, unless document 02 is named beside them.
  */
@@ -58,8 +58,22 @@ enum { SETLS_DIGITAL = 0x80, SETLS_ENABLES = 4, SETLS_FIXED = 0x08, ALL_CONTACTS
 static const int32_t POSITION_MOST = 2147483647;
 static const uint32_t SPEED_MOST = 5000000;
 
-/* "Numbers handed back" */
-enum { OK = 0, COMMAND_ERROR = 1, BUSY_ERROR = 2, PARAMETER_ERROR = 3, NG = 4, WRONG_SIZE = 5, NOT_SOUND = 6 };
+/* "Numbers handed back". 02 §5: "Split 4 by cause": 7 to 13 stand in its place, and "4 is no longer given". */
+enum {
+    OK = 0,
+    COMMAND_ERROR = 1,
+    BUSY_ERROR = 2,
+    PARAMETER_ERROR = 3,
+    WRONG_SIZE = 5,
+    NOT_SOUND = 6,
+    LOCAL_MODE = 7,
+    MOTOR_DISABLED = 8,
+    CONTACTS_UNREAD = 9,
+    SWITCH_ACTIVE = 10,
+    NO_ROOM_LIMIT = 11,
+    NO_ROOM_RANGE = 12,
+    SPC_STOPPED = 13
+};
 
 /* ---- Numbers in the table, little-endian ---- */
 
@@ -153,10 +167,15 @@ static inline int64_t ahead(uint32_t direction, int64_t from, int64_t to)
     return direction == CW ? to - from : from - to;
 }
 
+static inline int64_t range_end(uint32_t direction)
+{
+    return direction == CW ? POSITION_MOST : -POSITION_MOST;
+}
+
 /* A sound digital limit lies within the positions' range, so with D = 1 it is the nearer of the two ends. */
 static inline int64_t room(const uint8_t *motor, uint32_t direction)
 {
-    int64_t end = direction == CW ? POSITION_MOST : -POSITION_MOST;
+    int64_t end = range_end(direction);
     if ((motor[SETLS] & SETLS_DIGITAL) != 0)
         end = load_signed(motor + (direction == CW ? CW_LIMIT : CCW_LIMIT));
     return ahead(direction, load_signed(motor + POSITION), end);
@@ -625,15 +644,32 @@ static uint32_t speed_place(uint32_t speed)
 }
 
 /*
+ * The last checks of a start. 02 §5: "Refusals, in this order, 8 to 12 for starts only". 02 §2: "a start on an unread
+ * channel" is refused "after the target check", whatever switches are enabled. At the end of the range there is no
+ * room, wherever a limit lies, 02 §5: "where both, 12"; short of it, only a limit can leave none.
+ */
+static inline uint32_t start_refusal(const uint8_t *motor, uint32_t direction)
+{
+    if (motor[SETMT_A] == 0)
+        return MOTOR_DISABLED;
+    if (motor[CONTACTS_KNOWN] == 0)
+        return CONTACTS_UNREAD;
+    if (switch_ahead(motor, direction))
+        return SWITCH_ACTIVE;
+    if (room(motor, direction) >= 1)
+        return OK;
+    return load_signed(motor + POSITION) == range_end(direction) ? NO_ROOM_RANGE : NO_ROOM_LIMIT;
+}
+
+/*
  * "A start takes the selected speed, fraction 0, and clears the end flags." A stopped motor's fraction is 0 already.
- * 02 §2: "a start on an unread channel is 4, after the target check", whatever switches are enabled. 02 §3: under pause
- * "an accepted start is a held drive"; byte 32 alone tells it from one that runs.
+ * 02 §3: under pause "an accepted start is a held drive"; byte 32 alone tells it from one that runs.
  */
 static uint32_t start(const uint8_t *table, uint8_t *motor, uint8_t direction, uint8_t kind, int32_t target)
 {
-    if (motor[SETMT_A] == 0 || motor[CONTACTS_KNOWN] == 0 || switch_ahead(motor, direction) ||
-        room(motor, direction) < 1)
-        return NG;
+    uint32_t number = start_refusal(motor, direction);
+    if (number != OK)
+        return number;
     motor[END_FLAGS] = NO_END;
     motor[STATE] = (uint8_t)(table[PAUSE] == 0 ? direction : direction + HELD);
     motor[KIND] = kind;
@@ -686,11 +722,14 @@ static void set_pause(uint8_t *table, uint8_t pause)
     }
 }
 
-/* "SPC replaces the speed in force and keeps the fraction." 02 §3: "on a held motor sets its coming speed". */
+/*
+ * "SPC replaces the speed in force and keeps the fraction." 02 §3: "on a held motor sets its coming speed". 02 §5: "13
+ * SPC on a stopped motor", whatever a start would meet there.
+ */
 static uint32_t change_speed(uint8_t *motor, uint32_t speed)
 {
     if (!busy(motor))
-        return NG;
+        return SPC_STOPPED;
     store4(motor + SPEED_IN_FORCE, speed);
     return OK;
 }
@@ -704,11 +743,11 @@ static void select_or_set_speed(uint8_t *motor, const struct order *order)
         motor[SELECTED] = order->form->detail;
 }
 
-/* "Order: [...] local mode, value, busy" */
+/* "Order: [...] local mode, value, busy"; 02 §5: "7 keeps local mode's place". */
 static uint32_t refusal(const uint8_t *table, const uint8_t *motor, const struct order *order)
 {
     if (order->form->taken >= REMOTE_ONLY && table[MODE] == LOCAL)
-        return NG;
+        return LOCAL_MODE;
     if (!order->in_range)
         return PARAMETER_ERROR;
     if (order->form->taken == REMOTE_STOPPED && busy(motor))
@@ -782,7 +821,7 @@ struct text {
 
 #define TEXT(words) {words, sizeof words - 1}
 
-/* By number. */
+/* By text_place: numbers 0 to 3, and all others. */
 static const struct text NUMBER_TEXTS[] = {
     TEXT("OK"), TEXT("COMMAND ERROR"), TEXT("MCC06 BUSY ERROR"), TEXT("PARAMETER ERROR"), TEXT("NG")
 };
@@ -871,16 +910,25 @@ static size_t write_status(uint8_t *to, const uint8_t *table, const uint8_t *mot
     return 6 + write_place(to + 6, load_signed(motor + POSITION));
 }
 
-/* "Numbers 1 to 4 set error flag bits 0 to 3 in turn". */
-static uint8_t flag_of(uint32_t number)
+/*
+ * A command's number as a place among the texts. 02 §5: "the text stays NG and the flag bit 3, also for later command
+ * numbers", so all that are left over have the last place.
+ */
+static inline uint32_t text_place(uint32_t number)
 {
-    return (uint8_t)(1u << (number - 1));
+    return number <= PARAMETER_ERROR ? number : PARAMETER_ERROR + 1;
+}
+
+/* An error's text and its flag go together: the texts after OK have "error flag bits 0 to 3 in turn". */
+static inline uint8_t flag_of(uint32_t number)
+{
+    return (uint8_t)(1u << (text_place(number) - 1));
 }
 
 /* "the lowest error's text (bit 3 is OTHER ERROR) or NO ERROR" */
 static const struct text *lowest_error(uint8_t flags)
 {
-    for (uint32_t number = COMMAND_ERROR; number < NG; number++)
+    for (uint32_t number = COMMAND_ERROR; number <= PARAMETER_ERROR; number++)
         if ((flags & flag_of(number)) != 0)
             return &NUMBER_TEXTS[number];
     return flags != 0 ? &OTHER_ERROR : &NO_ERROR;
@@ -983,7 +1031,7 @@ uint32_t model_command(uint8_t *table, size_t table_size, const uint8_t *line, s
         table[ERROR_FLAGS] |= flag_of(number);
     if (table[ALL_REPLY] == 0)
         return number;
-    return number + 256 * (uint32_t)write_text(reply, &NUMBER_TEXTS[number]);
+    return number + 256 * (uint32_t)write_text(reply, &NUMBER_TEXTS[text_place(number)]);
 }
 
 /* "A switch reading replaces the contacts." With it they are known, also where all are open: 02 §2, "1 read". */

@@ -1,5 +1,5 @@
 /*
- * Document 01 as amended by §1 to §3 of document 02, in plain C: the sixteen-axis pulse controller, written from the
+ * Document 01 as amended by §1 to §5 of document 02, in plain C: the sixteen-axis pulse controller, written from the
  * documents alone. It is there to be compared with the proved library call by call, and to measure the library's speed
  * beside.
  *
@@ -16,7 +16,7 @@
 /* Makes a fresh table. 0, or 5 for a table that is not 1,088 bytes. */
 uint32_t model_fresh(uint8_t *table, size_t table_size);
 
-/* Takes one command line. The number plus 256 times the length of the reply. */
+/* Takes one command line. The number, 0 to 3 or 5 to 13, plus 256 times the length of the reply. */
 uint32_t model_command(uint8_t *table, size_t table_size, const uint8_t *line, size_t line_size, uint8_t *reply,
                        size_t reply_size);
 

@@ -8,7 +8,8 @@
 
 const uint32_t tour_numbers[CALLS] = {
     [FRESH] = NUMBER(0) | NUMBER(5),
-    [COMMAND] = NUMBER(0) | NUMBER(1) | NUMBER(2) | NUMBER(3) | NUMBER(4) | NUMBER(5) | NUMBER(6),
+    [COMMAND] = NUMBER(0) | NUMBER(1) | NUMBER(2) | NUMBER(3) | NUMBER(5) | NUMBER(6) | NUMBER(7) | NUMBER(8) | NUMBER(9) | NUMBER(10)
+                | NUMBER(11) | NUMBER(12) | NUMBER(13),
     [READING] = NUMBER(0) | NUMBER(5) | NUMBER(6),
     [TICK] = NUMBER(0) | NUMBER(5) | NUMBER(6),
 };
@@ -79,21 +80,49 @@ const struct step tour[] = {
     {.kind = COMMAND, .number = 3, .before = "REM", .line = "PS02147483648"},
     {.kind = COMMAND, .number = 3, .before = "REM;PS0+2147483647", .line = "REL0+1"},
     {.kind = COMMAND, .number = 3, .before = "REM;PS0+2147483647", .line = "JOGP0"},
-    /* local mode, A = 0, contacts not read, an active enabled switch ahead, no room, SPC on a stopped motor */
-    {.kind = COMMAND, .number = 4, .before = "S 0 0", .line = "SCANP0"},
-    {.kind = COMMAND, .number = 4, .before = "S 0 0;REM;SETMT00100", .line = "SCANP0"},
-    {.kind = COMMAND, .number = 4, .before = "REM", .line = "SCANP0"},
-    {.kind = COMMAND, .number = 4, .before = "S 1 0;REM;SETLS000000000", .line = "SCANN0"},
-    {.kind = COMMAND, .number = 4, .before = "S 0 0;REM;SETLS001110001", .line = "SCANP0"},
-    {.kind = COMMAND, .number = 4, .before = "S 0 1;REM", .line = "SCANP0"},
-    {.kind = COMMAND, .number = 4, .before = "S 0 0;REM;PS0+2147483647", .line = "SCANP0"},
-    {.kind = COMMAND, .number = 4, .before = "S 0 0;REM;SETLS011110000;FL0+0", .line = "SCANP0"},
-    {.kind = COMMAND, .number = 4, .before = "REM", .line = "SPC0400"},
-    {.kind = COMMAND, .number = 4, .line = "PAUSE ON"},
-    {.kind = COMMAND, .number = 4, .before = "S 0 0;REM;PAUSE ON;SCANP0;LOC", .line = "PAUSE OFF"},
-    /* under pause a start passes the same checks */
-    {.kind = COMMAND, .number = 4, .before = "REM;PAUSE ON", .line = "SCANP0"},
-    {.kind = COMMAND, .number = 4, .before = "S 0 1;REM;PAUSE ON", .line = "SCANP0"},
+    /* local mode, before the value: starts that would not move the motor, settings, SPC, all-reply, pause; with a held motor too */
+    {.kind = COMMAND, .number = 7, .before = "S 0 0", .line = "SCANP0"},
+    {.kind = COMMAND, .number = 7, .line = "PS0+9999999999"},
+    {.kind = COMMAND, .number = 7, .line = "REL0+0"},
+    {.kind = COMMAND, .number = 7, .line = "SPC00"},
+    {.kind = COMMAND, .number = 7, .line = "SPDH0"},
+    {.kind = COMMAND, .number = 7, .line = "PAUSE ON"},
+    {.kind = COMMAND, .number = 7, .before = "S 0 0;REM;PAUSE ON;SCANP0;LOC", .line = "PAUSE OFF"},
+    {.kind = COMMAND, .number = 7, .before = "S 0 0;REM;SCANP0;LOC", .line = "SPC0400"},
+    {.kind = COMMAND, .number = 7, .before = "REM;ALL_REP EN;LOC", .line = "ALL_REP DS"},
+    /* A = 0, before all that lies in the motor besides: not read, an active switch, the end of the range; after the target's range */
+    {.kind = COMMAND, .number = 8, .before = "S 0 0;REM;SETMT00100", .line = "SCANP0"},
+    {.kind = COMMAND, .number = 8, .before = "REM;SETMT00100;SETLS001110001;PS0+2147483647", .line = "SCANP0"},
+    {.kind = COMMAND, .number = 3, .before = "REM;SETMT00100;PS0+2147483647", .line = "REL0+1"},
+    /* contacts not read, whatever is enabled, active or at its end; another channel's reading does not count */
+    {.kind = COMMAND, .number = 9, .before = "REM", .line = "SCANP0"},
+    {.kind = COMMAND, .number = 9, .before = "S 1 0;REM;SETLS000000000", .line = "SCANN0"},
+    {.kind = COMMAND, .number = 9, .before = "REM;SETLS001110001;PS0+2147483647", .line = "SCANP0"},
+    {.kind = COMMAND, .number = 9, .before = "REM;PAUSE ON", .line = "SCANP0"},
+    /* an active enabled switch ahead, N.O. and N.C., at the end of the range too */
+    {.kind = COMMAND, .number = 10, .before = "S 0 0;REM;SETLS001110001", .line = "SCANP0"},
+    {.kind = COMMAND, .number = 10, .before = "S 0 1;REM", .line = "JOGP0"},
+    {.kind = COMMAND, .number = 10, .before = "S 0 2;REM;PS0-2147483647", .line = "SCANN0"},
+    {.kind = COMMAND, .number = 10, .before = "S 0 1;REM;PAUSE ON", .line = "SCANP0"},
+    /* no room because of a digital limit: at it, past it, either way, each start; at the other end of the range */
+    {.kind = COMMAND, .number = 11, .before = "S 0 0;REM;SETLS011110000;FL0+0", .line = "SCANP0"},
+    {.kind = COMMAND, .number = 11, .before = "S 0 0;REM;SETLS011110000;FL0+5;PS0+8", .line = "ABS0+9"},
+    {.kind = COMMAND, .number = 11, .before = "S 0 0;REM;SETLS011110000;FL0+5;PS0+5", .line = "REL0+1"},
+    {.kind = COMMAND, .number = 11, .before = "S 0 0;REM;SETLS011110000;BL0+5", .line = "JOGN0"},
+    {.kind = COMMAND, .number = 11, .before = "S 0 0;REM;SETLS011110000;FL0-2147483647;PS0-2147483647", .line = "SCANP0"},
+    {.kind = COMMAND, .number = 0, .before = "S 0 0;REM;SETLS011110000;FL0+5;PS0+8", .line = "SCANN0"},
+    /* because of the end of the range: with the limits off, and on, wherever they lie; JOG and REL past it have no target there */
+    {.kind = COMMAND, .number = 12, .before = "S 0 0;REM;PS0+2147483647", .line = "SCANP0"},
+    {.kind = COMMAND, .number = 12, .before = "S 0 0;REM;PS0-2147483647", .line = "SCANN0"},
+    {.kind = COMMAND, .number = 12, .before = "S 0 0;REM;SETLS011110000;PS0+2147483647", .line = "SCANP0"},
+    {.kind = COMMAND, .number = 12, .before = "S 0 0;REM;SETLS011110000;FL0+2147483647;PS0+2147483647", .line = "SCANP0"},
+    {.kind = COMMAND, .number = 12, .before = "S 0 0;REM;SETLS011110000;BL0+7;PS0-2147483647;PAUSE ON", .line = "SCANN0"},
+    {.kind = COMMAND, .number = 3, .before = "S 0 0;REM;SETLS011110000;PS0+2147483647", .line = "JOGP0"},
+    /* SPC on a stopped motor, whatever A, contacts and room are; its value comes first */
+    {.kind = COMMAND, .number = 13, .before = "REM", .line = "SPC0400"},
+    {.kind = COMMAND, .number = 13, .before = "REM;SETMT00100;PS0+2147483647", .line = "SPC0400"},
+    {.kind = COMMAND, .number = 13, .before = "S 0 0;REM;PAUSE ON;SCANP0;ESTP0", .line = "SPC0400"},
+    {.kind = COMMAND, .number = 3, .before = "REM", .line = "SPC00"},
     {.kind = COMMAND, .number = 5, .line = "REM", .table = -1},
     {.kind = COMMAND, .number = 5, .line = "REM", .reply = -1},
     {.kind = COMMAND, .number = 6, .line = "REM", .damaged = true},

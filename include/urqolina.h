@@ -27,7 +27,7 @@ extern "C" {
 
 /*
  * At power-up. A fresh table knows nothing of the switches: the contacts of a channel are unknown until its first
- * accepted reading, and until then no start moves its motor (4). So after urqolina_fresh, and after restoring a table
+ * accepted reading, and until then no start moves its motor (9). So after urqolina_fresh, and after restoring a table
  * that was kept, read the switches of all sixteen channels before the first start, those without switches too:
  *
  *   urqolina_fresh(table, sizeof table);
@@ -44,8 +44,10 @@ extern "C" {
  * keeps the second with it, and makes a fresh table where it is not the same.
  *   version 1: document 01
  *   version 2: where a line takes a signed number, one without a sign means plus: ABS0100 is ABS0+100
- *   version 3: a start on a channel whose switches were not read since fresh is 4; its status shows no switch as active
+ *   version 3: a start on a channel whose switches were not read since fresh is refused; its status shows no switch as active
  *   version 4: PAUSE ON, PAUSE OFF and PAUSE?, and drives that are held between them
+ *   version 5: 4 is no longer given; 7 to 13 stand in its place, one for each cause, and all else is as it was.
+ *             urqolina_advice
  *   layout 1: a head of 64 bytes and sixteen records of 64, as document 01 has them
  *   layout 2: byte 44 of a record is 0 while its contacts are unknown, and byte 26 then is 0 too, or 1 once they are
  *             read. Of the tables of layout 1, one with a closed contact or a driving motor is answered 6, and the
@@ -53,7 +55,7 @@ extern "C" {
  *   layout 3: byte 3 of the head is 1 while pause is on, and byte 32 of a record is 3 (CW) or 4 (CCW) while its drive is
  *             held. Every table of layout 2 means the same in this one
  */
-#define URQOLINA_VERSION 4
+#define URQOLINA_VERSION 5
 #define URQOLINA_LAYOUT 3
 
 /*
@@ -63,7 +65,7 @@ extern "C" {
  *   REM, PAUSE ON, REL0+4, REL1-4, PAUSE OFF
  * A held channel has the status S with HH 01 (STS0? is R0S001+0000000), is answered 2 to starts and settings, takes SPC for
  * its coming speed, and ends by a stop or by the switch of its direction as a driving one does. Pause and held drives last
- * through LOC, where PAUSE OFF is 4: a host that goes to local mode stops what it has held, or comes back to release it.
+ * through LOC, where PAUSE OFF is 7: a host that goes to local mode stops what it has held, or comes back to release it.
  * They are in the table too: one that is kept and restored holds what it held until PAUSE OFF or its end. PAUSE? tells.
  */
 
@@ -75,16 +77,26 @@ extern "C" {
 #define URQOLINA_CHANNELS 16u
 #define URQOLINA_CONTACTS_MOST 7u  /* closed = 1: bit 0 CW, bit 1 CCW, bit 2 HP */
 
-/* The numbers that a call hands back. */
+/*
+ * The numbers that a call hands back; 4 is no longer one of them. 7 to 13 all have the text NG and the error flag 8, and so
+ * will later ones: the number tells which it is. Where several causes hold, a start is answered the lowest of 8 to 12, but
+ * for 11 and 12: at the end of the range it is 12, whatever the limits are. ABS to the present position and REL 0 move
+ * nothing, and meet none of 8 to 12.
+ */
 enum {
-    URQOLINA_OK = 0,            /* done */
-    URQOLINA_COMMAND_ERROR = 1, /* the line has no form */
-    URQOLINA_BUSY = 2,          /* a start, setting or speed selection of a driving or held channel */
-    URQOLINA_PARAMETER = 3,     /* the form is right, a value is outside its range */
-    URQOLINA_NG = 4,            /* local mode; A = 0; contacts not read yet; an active enabled switch ahead; no room; SPC
-                                   on a stopped motor */
-    URQOLINA_WRONG_SIZE = 5,    /* a buffer of the wrong size, a channel over 15, contacts over 7 */
-    URQOLINA_NOT_SOUND = 6      /* the table is not sound */
+    URQOLINA_OK = 0,               /* done */
+    URQOLINA_COMMAND_ERROR = 1,    /* the line has no form */
+    URQOLINA_BUSY = 2,             /* a start, setting or speed selection of a driving or held channel */
+    URQOLINA_PARAMETER = 3,        /* the form is right, a value is outside its range */
+    URQOLINA_WRONG_SIZE = 5,       /* a buffer of the wrong size, a channel over 15, contacts over 7 */
+    URQOLINA_NOT_SOUND = 6,        /* the table is not sound */
+    URQOLINA_LOCAL_MODE = 7,       /* local mode, and a line that only remote mode takes */
+    URQOLINA_MOTOR_DISABLED = 8,   /* a start with A = 0 in SETMT */
+    URQOLINA_SWITCHES_UNREAD = 9,  /* a start on a channel whose switches were not read since fresh */
+    URQOLINA_SWITCH_AHEAD = 10,    /* a start towards a switch that is active and enabled */
+    URQOLINA_AT_LIMIT = 11,        /* a start at the digital limit of its direction or past it, with D = 1 in SETLS */
+    URQOLINA_AT_RANGE_END = 12,    /* a scan at the end of the range: CW at +2147483647, CCW at -2147483647 */
+    URQOLINA_MOTOR_STOPPED = 13    /* SPC on a motor that stands stopped */
 };
 
 /* A command's result is the number plus 256 times the length of the reply. The other calls' result is the number. */
@@ -99,10 +111,11 @@ uint32_t urqolina_fresh(uint8_t *table, size_t table_size);
 
 /*
  * Takes one command line, without CR LF. The line is any bytes; it need not end in a zero.
- *   0       the table is changed as the command says; the reply is written
- *   1 to 4  error flag 1, 2, 4 or 8 is set in byte 2 of the table, and nothing else in it is changed; the number's text
- *           is the reply if all-reply is on
- *   5, 6    no byte of any buffer is written
+ *   0        the table is changed as the command says; the reply is written
+ *   1, 2, 3  error flag 1, 2 or 4 is set in byte 2 of the table, and nothing else in it is changed; the number's text is
+ *            the reply if all-reply is on
+ *   7 to 13  the same with error flag 8 and the text NG
+ *   5, 6     no byte of any buffer is written
  * The reply stands at the front of the reply buffer, without a zero after it; the bytes past it stay as they were.
  */
 uint32_t urqolina_command(uint8_t *table, size_t table_size, const uint8_t *line, size_t line_size, uint8_t *reply,
@@ -130,6 +143,41 @@ static inline int32_t urqolina_count(const uint8_t *pulses, uint32_t channel)
     const uint8_t *p = pulses + 4u * channel;
     uint32_t word = (uint32_t)p[0] | (uint32_t)p[1] << 8 | (uint32_t)p[2] << 16 | (uint32_t)p[3] << 24;
     return word < 0x80000000u ? (int32_t)word : -(int32_t)(0xffffffffu - word) - 1;
+}
+
+/* What a number tells, and what to do about it: a sentence for the people at the bench. */
+static inline const char *urqolina_advice(uint32_t number)
+{
+    switch (number) {
+    case URQOLINA_OK:
+        return "done";
+    case URQOLINA_COMMAND_ERROR:
+        return "there is no such command: look at its letters, its channel and its digits; small letters and blanks count";
+    case URQOLINA_BUSY:
+        return "the motor is driving or held: stop it, or wait until it stands";
+    case URQOLINA_PARAMETER:
+        return "a number or the target is out of range: positions reach 2147483647 either way, speeds go from 1 to 5000000";
+    case URQOLINA_WRONG_SIZE:
+        return "a buffer has the wrong size, or there is no such channel or contact: mend the host's call";
+    case URQOLINA_NOT_SOUND:
+        return "the table is damaged: make it fresh, and read all switches";
+    case URQOLINA_LOCAL_MODE:
+        return "the controller is in local mode: send REM first";
+    case URQOLINA_MOTOR_DISABLED:
+        return "the motor is disabled: send SETMT with A = 1";
+    case URQOLINA_SWITCHES_UNREAD:
+        return "the switches of this channel were not read yet: read them first";
+    case URQOLINA_SWITCH_AHEAD:
+        return "the switch ahead is active: drive the other way, or free the switch";
+    case URQOLINA_AT_LIMIT:
+        return "the digital limit is reached: drive the other way, set the limit further out, or turn limits off with SETLS";
+    case URQOLINA_AT_RANGE_END:
+        return "the position is at the end of its range: drive the other way, or preset the position";
+    case URQOLINA_MOTOR_STOPPED:
+        return "the motor stands stopped, and SPC changes the speed of a drive: start it first";
+    default:
+        return "no number of this header's version: is the library a newer one?";
+    }
 }
 
 #ifdef __cplusplus

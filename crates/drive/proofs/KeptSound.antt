@@ -13,13 +13,13 @@ use Rattle.record.specs.declared.Wiring.{Wiring}
 use Rattle.record.specs.declared.Setup.{Setup}
 use Rattle.record.specs.declared.Motor.{Motor}
 use Rattle.record.specs.Record.{withPlace, withLimits, withSpeeds, withWiring, withSetup, withDrive, letGo}
-use Rattle.motor.specs.Switches.{unread, blocked, rangeEnd, edge, room}
+use Rattle.motor.specs.Switches.{unread, blocked, edge, room}
 use Rattle.motor.specs.Sound.{isSpeed, limitsInRange, speedsInRange, wiringInRange, contactsRight, setupInRange, endFlagsInRange, driveInRange, aimRight, busy, soundMotor}
 use Rattle.motor.proofs.SoundLaws.{and-l, and-r, speed-bounds, InRange, Bounds, sound-parts, sound-busy, busy-sound, sound-standing, standing-sound, range-bounds, sound-bounds, target-position, bounds-drive}
 use Rattle.drive.specs.declared.Course.{Course}
 use Rattle.drive.specs.declared.Course.the-variants.{Stay, Beyond, To, Along}
 use Rattle.drive.specs.declared.Verdict.the-variants.{Done, Disabled, Unread, SwitchAhead, AtLimit, AtRangeEnd}
-use Rattle.drive.specs.Drives.{lsend, speedNumbered, selectedSpeed, courseTo, towards, hindrance, judgeStart, wellAimed, launched, started, released, endedWith, stopped, speedChanged, contacted, switchRead}
+use Rattle.drive.specs.Drives.{lsend, speedNumbered, selectedSpeed, courseTo, towards, atRangeEnd, hindrance, judgeStart, wellAimed, launched, started, released, endedWith, stopped, speedChanged, contacted, switchRead}
 
 -- A drive that ends leaves a sound motor, whatever ends it.
 pub ended-sound : (flags : ℕ) (m : Motor) → endFlagsInRange flags ≡ true → InRange m → soundMotor (endedWith flags m) ≡ true
@@ -90,7 +90,7 @@ pub record Unhindered (m : Motor) (going : ℕ) : Type 0 where
 pub nothing-hinders : (m : Motor) (going : ℕ) → hindrance m going ≡ Done → Unhindered m going
 unfolding hindrance
 nothing-hinders m going h =
-    let p = go (eqb (m .setup .a) 0) (unread (m .wiring)) (blocked going m) (eqb (room going m) 0) (eqb (m .place) (rangeEnd going)) h in
+    let p = go (eqb (m .setup .a) 0) (unread (m .wiring)) (blocked going m) (eqb (room going m) 0) (atRangeEnd m going) h in
     record { ready = p .0; read = p .1; clear = p .2; leeway = p .3 }
   where
     go : (a u b r e : Bool) → cond a Disabled (cond u Unread (cond b SwitchAhead (cond r (cond e AtRangeEnd AtLimit) Done))) ≡ Done

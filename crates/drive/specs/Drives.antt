@@ -36,10 +36,14 @@ courseTo m going p n =
 unfoldable pub towards : Motor → ℕ → ℕ
 towards m p = cond (ltb (m .place) p) cw ccw
 
--- why there is none where there is "no room". 02 §5: "no room because of a digital limit", or "because of the end of the range (where
--- both, 12)": whatever the limit, the range ends where the motor stands
+-- the position is "the end of the range" in a direction, wherever the limit lies
+abbrev pub atRangeEnd : Motor → ℕ → Bool
+atRangeEnd m going = eqb (m .place) (rangeEnd going)
+
+-- why there is none, where there is no room. 02 §5: "11 no room because of a digital limit, 12 no room because of the end of the range
+-- (where both, 12)"
 abbrev pub noRoom : Motor → ℕ → Verdict
-noRoom m going = cond (eqb (m .place) (rangeEnd going)) AtRangeEnd AtLimit
+noRoom m going = cond (atRangeEnd m going) AtRangeEnd AtLimit
 
 -- what keeps a stopped motor from leaving in a direction: "A = 0; an active enabled switch ahead; no room". 02 §2: "a start on an unread
 -- channel is 4, after the target check". 02 §5: "in this order, 8 to 12 for starts only: .. 8 motor disabled, 9 contacts unread, 10
