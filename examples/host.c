@@ -1,6 +1,6 @@
 /*
  * A firmware loop over Urqolina: it makes a table, reads the switches, sends lines, ticks, and prints the pulses that a
- * real host would send to its drivers. README.md says how to build and link it.
+ * real host would send to its drivers, and for what is refused what to do about it. README.md says how to build and link it.
  */
 #include <stdio.h>
 #include <string.h>
@@ -12,11 +12,19 @@ static uint8_t table[URQOLINA_TABLE_SIZE];
 static uint8_t reply[URQOLINA_REPLY_SIZE];
 static uint8_t pulses[URQOLINA_PULSES_SIZE];
 
+static void print_number(uint32_t number)
+{
+    printf(" -> %u", number);
+    if (number != URQOLINA_OK)
+        printf(" (%s)", urqolina_advice(number));
+}
+
 static void send(const char *line)
 {
     uint32_t result =
         urqolina_command(table, sizeof table, (const uint8_t *)line, strlen(line), reply, sizeof reply);
-    printf("%-12s -> %u", line, URQOLINA_NUMBER(result));
+    printf("%-12s", line);
+    print_number(URQOLINA_NUMBER(result));
     if (URQOLINA_REPLY_LENGTH(result) != 0)
         printf(" %.*s", (int)URQOLINA_REPLY_LENGTH(result), (const char *)reply);
     printf("\n");
@@ -45,8 +53,11 @@ static int power_up(void)
 /* One millisecond: a refused tick gives no pulse, and its buffer is not looked at. */
 static void tick(unsigned millisecond)
 {
-    if (urqolina_tick(table, sizeof table, pulses, sizeof pulses) != URQOLINA_OK) {
-        printf("tick %u refused\n", millisecond);
+    uint32_t number = urqolina_tick(table, sizeof table, pulses, sizeof pulses);
+    if (number != URQOLINA_OK) {
+        printf("tick %u", millisecond);
+        print_number(number);
+        printf("\n");
         return;
     }
     for (uint32_t channel = 0; channel < URQOLINA_CHANNELS; channel++) {
@@ -62,6 +73,7 @@ int main(void)
 
     if (!power_up())
         return 1;
+    send("SCANN5");   /* at power-up the controller is in local mode: refused */
     send("REM");
     send("SCANP5");   /* onto its switch: refused */
     send("SCANN5");   /* and away from it */

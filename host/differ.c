@@ -7,8 +7,8 @@
  * then comes the sweep, every size of every buffer; and then calls are drawn to the end.
  *
  * What is held against each of the two besides: no byte outside a lent buffer is touched, read or written (bytes of a known
- * value around it, and pages that can't be touched beside those), a line is never written, 5 and 6 write nothing, and the
- * bytes past a reply stay.
+ * value around it, and pages that can't be touched beside those), a line is never written, 5 and 6 write nothing, every other
+ * refusal writes its error flag and its text alone, and the bytes past a reply stay.
  *
  * Where MODEL_ALONE is defined the model stands on both sides: for the sanitizers, which the library is not built for.
  */
@@ -190,6 +190,19 @@ static void compare_buffer(const struct lent *b, uint32_t number)
         must_keep(b, 0, "5 or 6 and yet a byte was written by ");
 }
 
+/* A refused line sets its error flag and changes nothing else in the table: 1, 2 and 3 have theirs, the others share the last. */
+static void compare_refusal(uint32_t number)
+{
+    enum { FLAGS = 2 };
+    uint8_t flag = (uint8_t)(number <= 3 ? 1u << (number - 1) : 8u);
+    for (int side = 0; side < SIDES; side++) {
+        const uint8_t *now = copy_of(&table, side);
+        if (now[FLAGS] != (table.before[FLAGS] | flag) || memcmp(now, table.before, FLAGS) != 0)
+            differs("a refused line left another head than its flag makes, by ", side_names[side]);
+    }
+    must_keep(&table, FLAGS + 1, "a refused line changed more than its flag, by ");
+}
+
 static void compare(void)
 {
     static const struct lent *const all[] = {&table, &line, &reply, &pulses};
@@ -202,6 +215,8 @@ static void compare(void)
         if (is_lent(all[k]))
             compare_buffer(all[k], number);
     if (call.kind == COMMAND) {
+        if (number != URQOLINA_OK && number != URQOLINA_WRONG_SIZE && number != URQOLINA_NOT_SOUND)
+            compare_refusal(number);
         must_keep(&line, 0, "the line was written by ");
         must_keep(&reply, call.results[LIBRARY] >> 8, "bytes past the reply were written by ");
     }
@@ -611,6 +626,11 @@ static void make_tour(void)
                 printf("differ: the tour has no step for the number %u of a %s\n", number, call_names[kind]);
                 exit(2);
             }
+    for (unsigned number = 0; number < TOUR_NUMBERS; number++)
+        if (is_number(number) != (strcmp(urqolina_advice(number), urqolina_advice(TOUR_NUMBERS)) != 0)) {
+            printf("differ: the header has no sentence for the number %u, or one for a number that is not given\n", number);
+            exit(2);
+        }
     in_tour = false;
 }
 

@@ -23,32 +23,37 @@ struct measured {
     uint32_t expected;   /* the number that the call must give */
     uint32_t damage;     /* a byte of the table that is not 0 when the call is made, if this is not 0 */
     bool paused;         /* they were started under pause, and are held */
+    const char *before;  /* a line that is sent last before the call, if there is one */
 };
 
 static const struct measured calls[] = {
-    {"fresh", FRESH, "", 0, 0, 0, false},
-    {"tick, 0 motors driving", TICK, "", 0, 0, 0, false},
-    {"tick, 1 motor driving", TICK, "", 1, 0, 0, false},
-    {"tick, 4 motors driving", TICK, "", 4, 0, 0, false},
-    {"tick, 16 motors driving", TICK, "", 16, 0, 0, false},
-    {"tick, 16 motors held", TICK, "", 16, 0, 0, true},
-    {"PS?0", COMMAND, "PS?0", 0, 0, 0, false},
-    {"PS?0, 16 motors driving", COMMAND, "PS?0", 16, 0, 0, false},
-    {"STS0?", COMMAND, "STS0?", 0, 0, 0, false},
-    {"ABS0+100, accepted", COMMAND, "ABS0+100", 0, 0, 0, false},
-    {"ABS0100, accepted", COMMAND, "ABS0100", 0, 0, 0, false},
-    {"ABS0+100, refused as busy", COMMAND, "ABS0+100", 1, 2, 0, false},
-    {"ABS0+3000000000, refused", COMMAND, "ABS0+3000000000", 0, 3, 0, false},
-    {"SETLS011110000", COMMAND, "SETLS011110000", 0, 0, 0, false},
-    {"AESTP, 16 motors driving", COMMAND, "AESTP", 16, 0, 0, false},
-    {"PAUSE ON", COMMAND, "PAUSE ON", 0, 0, 0, false},
-    {"PAUSE OFF, 16 motors held", COMMAND, "PAUSE OFF", 16, 0, 0, true},
-    {"garbled, ABS0+10z", COMMAND, "ABS0+10z", 0, 1, 0, false},
-    {"garbled, xyz", COMMAND, "xyz", 0, 1, 0, false},
-    {"reading", READING, "", 0, 0, 0, false},
-    {"reading that ends a drive", READING, "", 1, 0, 0, false},
-    {"table not sound at its head", COMMAND, "PS?0", 0, 6, 4, false},
-    {"table not sound at its end", COMMAND, "PS?0", 0, 6, 1087, false},
+    {"fresh", FRESH, "", 0, 0, 0, false, NULL},
+    {"tick, 0 motors driving", TICK, "", 0, 0, 0, false, NULL},
+    {"tick, 1 motor driving", TICK, "", 1, 0, 0, false, NULL},
+    {"tick, 4 motors driving", TICK, "", 4, 0, 0, false, NULL},
+    {"tick, 16 motors driving", TICK, "", 16, 0, 0, false, NULL},
+    {"tick, 16 motors held", TICK, "", 16, 0, 0, true, NULL},
+    {"PS?0", COMMAND, "PS?0", 0, 0, 0, false, NULL},
+    {"PS?0, 16 motors driving", COMMAND, "PS?0", 16, 0, 0, false, NULL},
+    {"STS0?", COMMAND, "STS0?", 0, 0, 0, false, NULL},
+    {"ABS0+100, accepted", COMMAND, "ABS0+100", 0, 0, 0, false, NULL},
+    {"ABS0100, accepted", COMMAND, "ABS0100", 0, 0, 0, false, NULL},
+    {"ABS0+100, refused as busy", COMMAND, "ABS0+100", 1, 2, 0, false, NULL},
+    {"ABS0+3000000000, refused", COMMAND, "ABS0+3000000000", 0, 3, 0, false, NULL},
+    {"SCANP0, refused in local mode", COMMAND, "SCANP0", 0, 7, 0, false, "LOC"},
+    {"SCANP0, refused as disabled", COMMAND, "SCANP0", 0, 8, 0, false, "SETMT00100"},
+    {"SCANP0, refused at the range's end", COMMAND, "SCANP0", 0, 12, 0, false, "PS0+2147483647"},
+    {"SPC0400, refused as stopped", COMMAND, "SPC0400", 0, 13, 0, false, NULL},
+    {"SETLS011110000", COMMAND, "SETLS011110000", 0, 0, 0, false, NULL},
+    {"AESTP, 16 motors driving", COMMAND, "AESTP", 16, 0, 0, false, NULL},
+    {"PAUSE ON", COMMAND, "PAUSE ON", 0, 0, 0, false, NULL},
+    {"PAUSE OFF, 16 motors held", COMMAND, "PAUSE OFF", 16, 0, 0, true, NULL},
+    {"garbled, ABS0+10z", COMMAND, "ABS0+10z", 0, 1, 0, false, NULL},
+    {"garbled, xyz", COMMAND, "xyz", 0, 1, 0, false, NULL},
+    {"reading", READING, "", 0, 0, 0, false, NULL},
+    {"reading that ends a drive", READING, "", 1, 0, 0, false, NULL},
+    {"table not sound at its head", COMMAND, "PS?0", 0, 6, 4, false, NULL},
+    {"table not sound at its end", COMMAND, "PS?0", 0, 6, 1087, false, NULL},
 };
 
 /* Makes the table that a call is measured on, with all switches read. Scans and drives to a target take turns; a tick has passed already. */
@@ -61,6 +66,8 @@ static void prepare(const struct measured *m)
         send_line("PAUSE ON");
     set_out(m->driving);
     model_tick(start, URQOLINA_TABLE_SIZE, pulses, sizeof pulses);
+    if (m->before != NULL)
+        send_line(m->before);
     if (m->damage != 0)
         start[m->damage] = 1;
 }

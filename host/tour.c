@@ -94,6 +94,8 @@ const struct step tour[] = {
     {.kind = COMMAND, .number = 8, .before = "S 0 0;REM;SETMT00100", .line = "SCANP0"},
     {.kind = COMMAND, .number = 8, .before = "REM;SETMT00100;SETLS001110001;PS0+2147483647", .line = "SCANP0"},
     {.kind = COMMAND, .number = 3, .before = "REM;SETMT00100;PS0+2147483647", .line = "REL0+1"},
+    {.kind = COMMAND, .number = 0, .before = "REM;SETMT00100;PS0+2147483647", .line = "REL0+0"},
+    {.kind = COMMAND, .number = 0, .before = "S 0 7;REM;SETMT00100;PS0-2147483647", .line = "ABS0-2147483647"},
     /* contacts not read, whatever is enabled, active or at its end; another channel's reading does not count */
     {.kind = COMMAND, .number = 9, .before = "REM", .line = "SCANP0"},
     {.kind = COMMAND, .number = 9, .before = "S 1 0;REM;SETLS000000000", .line = "SCANN0"},

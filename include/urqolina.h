@@ -152,9 +152,9 @@ static inline const char *urqolina_advice(uint32_t number)
     case URQOLINA_OK:
         return "done";
     case URQOLINA_COMMAND_ERROR:
-        return "there is no such command: look at its letters, its channel and its digits; small letters and blanks count";
+        return "there is no such command: look for small letters, blanks, and digits or signs too many or too few";
     case URQOLINA_BUSY:
-        return "the motor is driving or held: stop it, or wait until it stands";
+        return "the motor is driving or held: stop it, or wait until it stands; PAUSE OFF releases what is held";
     case URQOLINA_PARAMETER:
         return "a number or the target is out of range: positions reach 2147483647 either way, speeds go from 1 to 5000000";
     case URQOLINA_WRONG_SIZE:
