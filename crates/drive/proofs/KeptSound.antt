@@ -1,5 +1,5 @@
 -- Each operation on a sound motor leaves a sound motor, and a tick of one is small. Assumes nothing.
-use mathlib.Core.Path.{_≡_, refl, _∙_}
+use mathlib.Core.Path.{_≡_, refl, sym, _∙_}
 use mathlib.Core.Bool.{Bool, true, false, _&&_, _||_, not, cond, false≢true}
 use Prim.Native.Nat.{ℕ, _≤_}
 use native.Mathlib.Omega.{arith}
@@ -13,9 +13,10 @@ use Rattle.record.specs.declared.Wiring.{Wiring}
 use Rattle.record.specs.declared.Setup.{Setup}
 use Rattle.record.specs.declared.Motor.{Motor}
 use Rattle.record.specs.Record.{withPlace, withLimits, withSpeeds, withWiring, withSetup, withDrive, letGo}
-use Rattle.motor.specs.Switches.{unread, blocked, edge, room}
+use Rattle.motor.specs.Switches.{unread, blocked, rangeEnd, edge, room}
 use Rattle.motor.specs.Sound.{isSpeed, limitsInRange, speedsInRange, wiringInRange, contactsRight, setupInRange, endFlagsInRange, driveInRange, aimRight, busy, soundMotor}
 use Rattle.motor.proofs.SoundLaws.{and-l, and-r, speed-bounds, InRange, Bounds, sound-parts, sound-busy, busy-sound, sound-standing, standing-sound, range-bounds, sound-bounds, target-position, bounds-drive}
+use Rattle.motor.proofs.RoomLaws.{room-at-end}
 use Rattle.drive.specs.declared.Course.{Course}
 use Rattle.drive.specs.declared.Course.the-variants.{Stay, Beyond, To, Along}
 use Rattle.drive.specs.declared.Verdict.the-variants.{Done, Disabled, Unread, SwitchAhead, AtLimit, AtRangeEnd}
@@ -90,17 +91,26 @@ pub record Unhindered (m : Motor) (going : ℕ) : Type 0 where
 pub nothing-hinders : (m : Motor) (going : ℕ) → hindrance m going ≡ Done → Unhindered m going
 unfolding hindrance
 nothing-hinders m going h =
-    let p = go (eqb (m .setup .a) 0) (unread (m .wiring)) (blocked going m) (eqb (room going m) 0) (atRangeEnd m going) h in
+    let p = go (eqb (m .setup .a) 0) (unread (m .wiring)) (blocked going m) (atRangeEnd m going) (eqb (room going m) 0) h in
     record { ready = p .0; read = p .1; clear = p .2; leeway = p .3 }
   where
-    go : (a u b r e : Bool) → cond a Disabled (cond u Unread (cond b SwitchAhead (cond r (cond e AtRangeEnd AtLimit) Done))) ≡ Done
+    go : (a u b e r : Bool) → cond a Disabled (cond u Unread (cond b SwitchAhead (cond e AtRangeEnd (cond r AtLimit Done)))) ≡ Done
         → (a ≡ false) × (u ≡ false) × (b ≡ false) × (r ≡ false)
-    go true u b r e h = (cc, cc, cc, cc)
-    go false true b r e h = (refl, cc, cc, cc)
-    go false false true r e h = (refl, refl, cc, cc)
-    go false false false true true h = (refl, refl, refl, cc)
-    go false false false true false h = (refl, refl, refl, cc)
-    go false false false false e h = (refl, refl, refl, refl)
+    go true u b e r h = (cc, cc, cc, cc)
+    go false true b e r h = (refl, cc, cc, cc)
+    go false false true e r h = (refl, refl, cc, cc)
+    go false false false true r h = (refl, refl, refl, cc)
+    go false false false false true h = (refl, refl, refl, cc)
+    go false false false false false h = (refl, refl, refl, refl)
+
+-- And nothing else keeps a motor from leaving: at the end of the range there is no room, so 12 refuses no start that 11 would not.
+pub unhindered-leaves : (m : Motor) (going : ℕ) → Unhindered m going → hindrance m going ≡ Done
+unfolding hindrance
+unhindered-leaves m going u = go (atRangeEnd m going) refl
+  where
+    go : (e : Bool) → atRangeEnd m going ≡ e → hindrance m going ≡ Done
+    go true e = absurd (false≢true (rw (room-at-end going m (eqb-true (m .place) (rangeEnd going) e)) at (sym (u .leeway))))
+    go false e = rw (u .ready, u .read, u .clear, e, u .leeway)
 
 -- The selected speed of a sound motor is a speed.
 pub selected-bounds : (m : Motor) → InRange m → (1 ≤ selectedSpeed m) × (selectedSpeed m ≤ 5000000)

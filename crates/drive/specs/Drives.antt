@@ -36,25 +36,22 @@ courseTo m going p n =
 unfoldable pub towards : Motor → ℕ → ℕ
 towards m p = cond (ltb (m .place) p) cw ccw
 
--- the position is "the end of the range" in a direction, wherever the limit lies
+-- 02 §5: "no room because of the end of the range": the position is that end, wherever the limit lies
 abbrev pub atRangeEnd : Motor → ℕ → Bool
 atRangeEnd m going = eqb (m .place) (rangeEnd going)
 
--- why there is none, where there is no room. 02 §5: "11 no room because of a digital limit, 12 no room because of the end of the range
--- (where both, 12)"
-abbrev pub noRoom : Motor → ℕ → Verdict
-noRoom m going = cond (atRangeEnd m going) AtRangeEnd AtLimit
-
 -- what keeps a stopped motor from leaving in a direction: "A = 0; an active enabled switch ahead; no room". 02 §2: "a start on an unread
 -- channel is 4, after the target check". 02 §5: "in this order, 8 to 12 for starts only: .. 8 motor disabled, 9 contacts unread, 10
--- enabled switch active ahead, 11 .., 12 .."
+-- enabled switch active ahead, 11 no room because of a digital limit, 12 no room because of the end of the range (where both, 12)": so
+-- the end of the range is asked for before the room, which then only a limit can leave at none
 unfoldable pub hindrance : Motor → ℕ → Verdict
 hindrance m going =
     cond (eqb (m .setup .a) 0) Disabled
     (cond (unread (m .wiring)) Unread
     (cond (blocked going m) SwitchAhead
-    (cond (eqb (room going m) 0) (noRoom m going)
-    Done)))
+    (cond (atRangeEnd m going) AtRangeEnd
+    (cond (eqb (room going m) 0) AtLimit
+    Done))))
 
 -- of a stopped motor: "target out of range (3, for REL and JOG ..), the other causes of 4", which 02 §5 numbers 8 to 12; ABS to the present position and
 -- REL 0 "meet no later check"

@@ -21,7 +21,7 @@ use record::Motor;
 use record::Speeds;
 ghost use mathlib.Core.Path.{_≡_};
 ghost use Rattle.record.specs.Record.{withDrive};
-ghost use Rattle.drive.specs.Drives.{speedNumbered, courseTo, towards, noRoom, hindrance, judgeStart, launched, started, released};
+ghost use Rattle.drive.specs.Drives.{speedNumbered, courseTo, towards, hindrance, judgeStart, launched, started, released};
 ghost use Rattle.drive.specs.Drives.{endedWith, judgeSpeedChange, speedChanged, contacted, switchRead};
 
 // The end flag of a drive that a switch or the end of its room ended.
@@ -93,17 +93,6 @@ fn direction_to(m: Motor, p: u32) -> u8
     if m.place < p { CW } else { CCW }
 }
 
-// Why a motor that has no room in a direction has none.
-fn no_room(m: Motor, going: u8) -> Verdict
-    ensures { λ r. ⌜ r ≡ noRoom m going ⌝ }
-{
-    if m.place == range_end(going) {
-        Verdict::AtRangeEnd
-    } else {
-        Verdict::AtLimit
-    }
-}
-
 // What keeps a stopped motor from leaving in a direction, or that nothing does.
 fn hindrance_to(m: Motor, going: u8) -> Verdict
     ensures { λ r. ⌜ r ≡ hindrance m going ⌝ }
@@ -117,8 +106,11 @@ fn hindrance_to(m: Motor, going: u8) -> Verdict
     if is_blocked(going, m) {
         return Verdict::SwitchAhead;
     }
+    if m.place == range_end(going) {
+        return Verdict::AtRangeEnd;
+    }
     if room_of(going, m) == 0 {
-        return no_room(m, going);
+        return Verdict::AtLimit;
     }
     Verdict::Done
 }

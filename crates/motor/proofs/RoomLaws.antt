@@ -58,6 +58,23 @@ both a b n e = go (leb 1 a) refl (leb 1 b) refl
     go true p false q = lt-leb 1 n (omega (arith, e, leb-false 1 b q))
     go false p u q = lt-leb 1 n (omega (arith, e, leb-false 1 a p))
 
+-- At the end of the range there is no room, whatever the limit.
+pub room-at-end : (going : ℕ) (m : Motor) → m .place ≡ rangeEnd going → room going m ≡ 0
+unfolding room edge
+room-at-end going m = go (eqb going cw) (digital (m .wiring))
+  where
+    p : ℕ
+    p = m .place
+
+    go : (t d : Bool) → p ≡ cond t highest lowest
+        → cond t (cond t (cond d (min highest (m .limits .cw)) highest) (cond d (max lowest (m .limits .ccw)) lowest) - p)
+        (p - cond t (cond d (min highest (m .limits .cw)) highest) (cond d (max lowest (m .limits .ccw)) lowest))
+        ≡ 0
+    go true true h = omega (arith, h)
+    go true false h = omega (arith, h)
+    go false true h = omega (arith, h)
+    go false false h = omega (arith, h)
+
 -- A motor has a pulse of room where the end of the range lies ahead and, if D = 1, the digital limit.
 pub room-ahead : (going : ℕ) (m : Motor)
     → leb 1 (room going m)

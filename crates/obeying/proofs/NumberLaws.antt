@@ -14,7 +14,7 @@ use Rattle.drive.specs.declared.Verdict.{Verdict}
 use Rattle.drive.specs.declared.Verdict.the-variants.{Done, NoForm, Busy, OutOfRange, LocalMode, Disabled, Unread, SwitchAhead, AtLimit, AtRangeEnd, NotDriving}
 use Rattle.drive.specs.Numbers.{numberOf, isRefusal}
 use Rattle.drive.proofs.NumberLaws.{numbered}
-use Rattle.drive.specs.Drives.{atRangeEnd, noRoom, hindrance, towards, judgeStart}
+use Rattle.drive.specs.Drives.{atRangeEnd, hindrance, towards, judgeStart}
 use Rattle.line.specs.declared.Order.{Order}
 use Rattle.line.specs.declared.Order.the-variants.{Go, Stop, StopAll, ChangeSpeed, Set, Ask, AskHead, ForHead}
 use Rattle.line.specs.declared.Parsed.{Parsed}
@@ -54,7 +54,8 @@ hindrance-judged m going =
     either (eqb (m .setup .a) 0) Disabled _ refl
     (either (unread (m .wiring)) Unread _ refl
     (either (blocked going m) SwitchAhead _ refl
-    (either (eqb (room going m) 0) (noRoom m going) Done (either (atRangeEnd m going) AtRangeEnd AtLimit refl refl) refl)))
+    (either (atRangeEnd m going) AtRangeEnd _ refl
+    (either (eqb (room going m) 0) AtLimit Done refl refl))))
 
 start-judged : (m : Motor) (c : Course) → judged (judgeStart m c) ≡ true
 unfolding judgeStart numberOf

@@ -26,23 +26,28 @@ unfolding hindrance
 returns-3 c =
     rw (ne-eqb _ _ (c .before .before .before .before .if1 .left), ← c .before .before .before .is-unread .ensures, c .before .before .if2 .left, ← c .before .is-blocked .ensures, c .if3 .taken)
 
-room-of-requires : tie.Need-room-of-requires
-room-of-requires c κs = search needs
-
-no-room-requires : tie.Need-no-room-requires
-no-room-requires c κs = search needs
+range-end-requires : tie.Need-range-end-requires
+range-end-requires c κs = search needs
 
 returns-4 : tie.Need-returns-4
 unfolding hindrance
 returns-4 c =
-    let none : c .before .before .room-of .result ≡ 0 = omega arith in
-    rw (ne-eqb _ _ (c .before .before .before .before .before .before .before .if1 .left), ← c .before .before .before .before .before .before .is-unread .ensures, c .before .before .before .before .before .if2 .left, ← c .before .before .before .before .is-blocked .ensures, c .before .before .before .if3 .left, ← c .before .before .room-of .ensures, eq-eqb _ _ none, ← c .no-room .ensures)
+    rw (ne-eqb _ _ (c .before .before .before .before .before .before .before .if1 .left), ← c .before .before .before .before .before .before .is-unread .ensures, c .before .before .before .before .before .if2 .left, ← c .before .before .before .before .is-blocked .ensures, c .before .before .before .if3 .left, ← c .before .before .range-end .ensures, eq-eqb _ _ (c .if4 .taken))
+
+room-of-requires : tie.Need-room-of-requires
+room-of-requires c κs = search needs
 
 returns-5 : tie.Need-returns-5
 unfolding hindrance
 returns-5 c =
-    let some : c .before .room-of .result ≡ 0 → ⊥ = c .if4 .left in
-    rw (ne-eqb _ _ (c .before .before .before .before .before .before .if1 .left), ← c .before .before .before .before .before .is-unread .ensures, c .before .before .before .before .if2 .left, ← c .before .before .before .is-blocked .ensures, c .before .before .if3 .left, ← c .before .room-of .ensures, ne-eqb _ _ some)
+    let none : c .before .room-of .result ≡ 0 = omega arith in
+    rw (ne-eqb _ _ (c .before .before .before .before .before .before .before .before .before .if1 .left), ← c .before .before .before .before .before .before .before .before .is-unread .ensures, c .before .before .before .before .before .before .before .if2 .left, ← c .before .before .before .before .before .before .is-blocked .ensures, c .before .before .before .before .before .if3 .left, ← c .before .before .before .before .range-end .ensures, ne-eqb _ _ (c .before .before .if4 .left), ← c .before .room-of .ensures, eq-eqb _ _ none)
+
+returns-6 : tie.Need-returns-6
+unfolding hindrance
+returns-6 c =
+    let some : c .before .room-of .result ≡ 0 → ⊥ = c .if5 .left in
+    rw (ne-eqb _ _ (c .before .before .before .before .before .before .before .before .before .if1 .left), ← c .before .before .before .before .before .before .before .before .is-unread .ensures, c .before .before .before .before .before .before .before .if2 .left, ← c .before .before .before .before .before .before .is-blocked .ensures, c .before .before .before .before .before .if3 .left, ← c .before .before .before .before .range-end .ensures, ne-eqb _ _ (c .before .before .if4 .left), ← c .before .room-of .ensures, ne-eqb _ _ some)
 
 pub hindrance-to-spec : {M : Type 1} → statement M
 hindrance-to-spec =
@@ -53,7 +58,8 @@ hindrance-to-spec =
     returns-2
     is-blocked-requires
     returns-3
-    room-of-requires
-    no-room-requires
+    range-end-requires
     returns-4
-    returns-5)
+    room-of-requires
+    returns-5
+    returns-6)
