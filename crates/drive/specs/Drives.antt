@@ -53,8 +53,8 @@ hindrance m going =
     (cond (eqb (room going m) 0) AtLimit
     Done))))
 
--- of a stopped motor: "target out of range (3, for REL and JOG ..), the other causes of 4", which 02 §5 numbers 8 to 12; ABS to the present position and
--- REL 0 "meet no later check"
+-- of a stopped motor: "target out of range (3, for REL and JOG ..), the other causes of 4", which 02 §5 numbers 8 to 12; ABS to the
+-- present position and REL 0 "meet no later check"
 unfoldable pub judgeStart : Motor → Course → Verdict
 judgeStart m Stay = Done
 judgeStart m Beyond = OutOfRange
@@ -94,7 +94,7 @@ endedWith flags m = withDrive m flags standing
 unfoldable pub stopped : ℕ → Motor → Motor
 stopped flags m = cond (busy m) (endedWith flags m) m
 
--- "SPC on a stopped motor": 02 §5 "13"
+-- "4 .. SPC on a stopped motor"; 02 §5: "13 SPC on a stopped motor"
 abbrev pub judgeSpeedChange : Motor → Verdict
 judgeSpeedChange m = cond (busy m) Done NotDriving
 

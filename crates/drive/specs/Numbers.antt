@@ -35,8 +35,8 @@ numberOf NotDriving = 13
 abbrev pub isSilent : ℕ → Bool
 isSilent n = eqb n 5 || eqb n 6
 
--- the numbers that a line is refused with, and that leave their flag: "Numbers 1 to 4", where 4 "reads as the split numbers" (02 §5) and
--- those that are added later
+-- the numbers that a line is refused with, and that leave their flag: "Numbers 1 to 4", where 4 "reads as the split numbers" (02 §5), 7
+-- to 13, and those that later requests add to them
 abbrev pub isRefusal : ℕ → Bool
 isRefusal n = (leb 1 n && leb n 3) || leb 7 n
 
