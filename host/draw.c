@@ -257,8 +257,8 @@ void draw_damage(struct draw *d, uint8_t *table)
 }
 
 /*
- * The forms, the starts first. x stands for a channel, s for a number that may have a sign, u for one that may not, y for a digit that is mostly
- * 0 or 1, z for one that is mostly 0, e for any digit.
+ * The forms, the starts first. x stands for a channel, s for a number that may have a sign, u for one that may not, y for a digit
+ * that is mostly 0 or 1, z for one that is mostly 0, e for any digit.
  */
 static const char *const forms[] = {
     "ABSxs",  "RELxs",  "SCANPx", "SCANNx", "JOGPx",  "JOGNx",  "SSTPx",      "ESTPx",      "ASSTP",          "AESTP",

@@ -46,8 +46,8 @@ extern "C" {
  *   version 2: where a line takes a signed number, one without a sign means plus: ABS0100 is ABS0+100
  *   version 3: a start on a channel whose switches were not read since fresh is refused; its status shows no switch as active
  *   version 4: PAUSE ON, PAUSE OFF and PAUSE?, and drives that are held between them
- *   version 5: 4 is no longer given; 7 to 13 stand in its place, one for each cause, and all else is as it was.
- *             urqolina_advice
+ *   version 5: 4 is no longer given; 7 to 13 stand in its place, one for each cause, and all else is as it was. New is
+ *              urqolina_advice
  *   layout 1: a head of 64 bytes and sixteen records of 64, as document 01 has them
  *   layout 2: byte 44 of a record is 0 while its contacts are unknown, and byte 26 then is 0 too, or 1 once they are
  *             read. Of the tables of layout 1, one with a closed contact or a driving motor is answered 6, and the
@@ -84,19 +84,19 @@ extern "C" {
  * nothing, and meet none of 8 to 12.
  */
 enum {
-    URQOLINA_OK = 0,               /* done */
-    URQOLINA_COMMAND_ERROR = 1,    /* the line has no form */
-    URQOLINA_BUSY = 2,             /* a start, setting or speed selection of a driving or held channel */
-    URQOLINA_PARAMETER = 3,        /* the form is right, a value is outside its range */
-    URQOLINA_WRONG_SIZE = 5,       /* a buffer of the wrong size, a channel over 15, contacts over 7 */
-    URQOLINA_NOT_SOUND = 6,        /* the table is not sound */
-    URQOLINA_LOCAL_MODE = 7,       /* local mode, and a line that only remote mode takes */
-    URQOLINA_MOTOR_DISABLED = 8,   /* a start with A = 0 in SETMT */
-    URQOLINA_SWITCHES_UNREAD = 9,  /* a start on a channel whose switches were not read since fresh */
-    URQOLINA_SWITCH_AHEAD = 10,    /* a start towards a switch that is active and enabled */
-    URQOLINA_AT_LIMIT = 11,        /* a start at the digital limit of its direction or past it, with D = 1 in SETLS */
-    URQOLINA_AT_RANGE_END = 12,    /* a scan at the end of the range: CW at +2147483647, CCW at -2147483647 */
-    URQOLINA_MOTOR_STOPPED = 13    /* SPC on a motor that stands stopped */
+    URQOLINA_OK = 0,                /* done */
+    URQOLINA_COMMAND_ERROR = 1,     /* the line has no form */
+    URQOLINA_BUSY = 2,              /* a start, setting or speed selection of a driving or held channel */
+    URQOLINA_PARAMETER = 3,         /* the form is right, a value is outside its range */
+    URQOLINA_WRONG_SIZE = 5,        /* a buffer of the wrong size, a channel over 15, contacts over 7 */
+    URQOLINA_NOT_SOUND = 6,         /* the table is not sound */
+    URQOLINA_LOCAL_MODE = 7,        /* local mode, and a line that only remote mode takes */
+    URQOLINA_MOTOR_DISABLED = 8,    /* a start with A = 0 in SETMT */
+    URQOLINA_SWITCHES_UNREAD = 9,   /* a start on a channel whose switches were not read since fresh */
+    URQOLINA_SWITCH_AHEAD = 10,     /* a start towards a switch that is active and enabled */
+    URQOLINA_AT_DIGITAL_LIMIT = 11, /* a start at the digital limit of its direction or past it, with D = 1 in SETLS */
+    URQOLINA_AT_RANGE_END = 12,     /* a scan at the end of the range: CW at +2147483647, CCW at -2147483647 */
+    URQOLINA_MOTOR_STOPPED = 13     /* SPC on a motor that stands stopped */
 };
 
 /* A command's result is the number plus 256 times the length of the reply. The other calls' result is the number. */
@@ -114,7 +114,7 @@ uint32_t urqolina_fresh(uint8_t *table, size_t table_size);
  *   0        the table is changed as the command says; the reply is written
  *   1, 2, 3  error flag 1, 2 or 4 is set in byte 2 of the table, and nothing else in it is changed; the number's text is
  *            the reply if all-reply is on
- *   7 to 13  the same with error flag 8 and the text NG
+ *   7 on     the same with error flag 8 and the text NG
  *   5, 6     no byte of any buffer is written
  * The reply stands at the front of the reply buffer, without a zero after it; the bytes past it stay as they were.
  */
@@ -145,7 +145,10 @@ static inline int32_t urqolina_count(const uint8_t *pulses, uint32_t channel)
     return word < 0x80000000u ? (int32_t)word : -(int32_t)(0xffffffffu - word) - 1;
 }
 
-/* What a number tells, and what to do about it: a sentence for the people at the bench. */
+/*
+ * What a number tells, and what to do about it: a sentence for the people at the bench. Of a command's result it takes
+ * URQOLINA_NUMBER(result).
+ */
 static inline const char *urqolina_advice(uint32_t number)
 {
     switch (number) {
@@ -156,11 +159,13 @@ static inline const char *urqolina_advice(uint32_t number)
     case URQOLINA_BUSY:
         return "the motor is driving or held: stop it, or wait until it stands; PAUSE OFF releases what is held";
     case URQOLINA_PARAMETER:
-        return "a number or the target is out of range: positions reach 2147483647 either way, speeds go from 1 to 5000000";
+        return "a number or the target is out of range: positions reach 2147483647 either way, speeds go from 1 to 5000000; "
+               "the digits of SETLS, SETMT and ERRC have ranges of their own";
     case URQOLINA_WRONG_SIZE:
         return "a buffer has the wrong size, or there is no such channel or contact: mend the host's call";
     case URQOLINA_NOT_SOUND:
-        return "the table is damaged: make it fresh, and read all switches";
+        return "the table is damaged: restore one that was kept, or make it fresh and read all switches; a fresh one has "
+               "lost its positions and settings";
     case URQOLINA_LOCAL_MODE:
         return "the controller is in local mode: send REM first";
     case URQOLINA_MOTOR_DISABLED:
@@ -168,15 +173,17 @@ static inline const char *urqolina_advice(uint32_t number)
     case URQOLINA_SWITCHES_UNREAD:
         return "the switches of this channel were not read yet: read them first";
     case URQOLINA_SWITCH_AHEAD:
-        return "the switch ahead is active: drive the other way, or free the switch";
-    case URQOLINA_AT_LIMIT:
-        return "the digital limit is reached: drive the other way, set the limit further out, or turn limits off with SETLS";
+        return "the switch ahead is active: drive the other way, or free the switch; where nothing is on it, look at its "
+               "wire and at its polarity in SETLS";
+    case URQOLINA_AT_DIGITAL_LIMIT:
+        return "the digital limit is reached: drive the other way, set the limit further out with FL or BL, or send SETLS "
+               "with D = 0 and its other digits as they are";
     case URQOLINA_AT_RANGE_END:
-        return "the position is at the end of its range: drive the other way, or preset the position";
+        return "the position is at the end of its range: drive the other way, or preset the position with PS";
     case URQOLINA_MOTOR_STOPPED:
         return "the motor stands stopped, and SPC changes the speed of a drive: start it first";
     default:
-        return "no number of this header's version: is the library a newer one?";
+        return "this header does not know the number: are header and library of one version?";
     }
 }
 

@@ -1,5 +1,6 @@
 #!/bin/sh
-# examples/host.c: that it compiles without a warning and does what its comments say; example.out was written from those and document 01.
+# examples/host.c: that it compiles without a warning and does what its comments say; example.out was written from those, the
+# documents and the header's sentences.
 . "$(dirname "$0")/tree"
 
 "$tree/host/run" example >"$room/out" 2>"$room/err"

@@ -6,7 +6,7 @@ use native.Mathlib.Omega.{arith}
 use Rattle.digits.specs.Words.{isSet}
 use lib.Dec.{eqb, leb, ltb}
 use borrow.Author.Tests.{le-leb, eqb-true, eqb-false, ne-eqb, ltb-true, ltb-false, not-true}
-use Rattle.digits.specs.Places.{origin, isPosition, moved, ahead, cw, ccw}
+use Rattle.digits.specs.Places.{origin, lowest, highest, isPosition, moved, ahead, cw, ccw}
 use Rattle.record.specs.declared.Limits.{Limits}
 use Rattle.record.specs.declared.Speeds.{Speeds}
 use Rattle.record.specs.declared.Wiring.{Wiring}
@@ -15,7 +15,7 @@ use Rattle.record.specs.declared.Motor.{Motor}
 use Rattle.record.specs.Record.{withPlace, withLimits, withSpeeds, withWiring, withSetup, withDrive, letGo}
 use Rattle.motor.specs.Switches.{unread, blocked, rangeEnd, edge, room}
 use Rattle.motor.specs.Sound.{isSpeed, limitsInRange, speedsInRange, wiringInRange, contactsRight, setupInRange, endFlagsInRange, driveInRange, aimRight, busy, soundMotor}
-use Rattle.motor.proofs.SoundLaws.{and-l, and-r, speed-bounds, InRange, Bounds, sound-parts, sound-busy, busy-sound, sound-standing, standing-sound, range-bounds, sound-bounds, target-position, bounds-drive}
+use Rattle.motor.proofs.SoundLaws.{and-l, and-r, position-bounds, speed-bounds, InRange, Bounds, sound-parts, sound-busy, busy-sound, sound-standing, standing-sound, range-bounds, sound-bounds, target-position, bounds-drive}
 use Rattle.motor.proofs.RoomLaws.{room-at-end}
 use Rattle.drive.specs.declared.Course.{Course}
 use Rattle.drive.specs.declared.Course.the-variants.{Stay, Beyond, To, Along}
@@ -151,6 +151,18 @@ towards-ahead m p e = go (ltb (m .place) p) refl
     go : (t : Bool) → ltb (m .place) p ≡ t → (1 ≤ cond t cw ccw) × (cond t cw ccw ≤ 2) × (1 ≤ ahead (cond t cw ccw) (m .place) p)
     go true t = omega (arith, ltb-true (m .place) p t)
     go false t = omega (arith, apart, ltb-false (m .place) p t)
+
+-- No position lies past the end of the range, so that a start to a target does not meet it.
+pub target-inside : (m : Motor) (p : ℕ) → isPosition p ≡ true → eqb p (m .place) ≡ false → atRangeEnd m (towards m p) ≡ false
+unfolding towards
+target-inside m p i e = go (ltb (m .place) p) refl
+  where
+    apart : p ≡ m .place → ⊥
+    apart = eqb-false p (m .place) e
+
+    go : (t : Bool) → ltb (m .place) p ≡ t → eqb (m .place) (rangeEnd (cond t cw ccw)) ≡ false
+    go true t = ne-eqb (m .place) highest (λ h. absurd (omega (arith, h, ltb-true (m .place) p t, position-bounds p i)))
+    go false t = ne-eqb (m .place) lowest (λ h. absurd (omega (arith, h, apart, ltb-false (m .place) p t, position-bounds p i)))
 
 two-ways : (going : ℕ) → (eqb going cw || eqb going ccw) ≡ true → (1 ≤ going) × (going ≤ 2)
 two-ways going = go (eqb going cw) refl (eqb going ccw) refl

@@ -59,7 +59,7 @@ Left t b a = (n : ℕ) → isSilent n ≡ true → a .result % 256 ≡ n → a �
 left : (t b : List ℕ) (k : ℕ) → Silent k → Left t b (record { result = k; table = t; buffer = b })
 left t b k h n z e = let same : k ≡ n = omega (arith, h .2, e) in rw same
 
--- Neither has the number 0, 5 and 6 nor a refusal; and no refusal is 5 or 6.
+-- Neither 5 and 6 nor a refusal is 0; and no refusal is 5 or 6.
 silent-some : (n : ℕ) → isSilent n ≡ true → n ≡ 0 → ⊥
 silent-some n h e = false≢true (rw e at h)
 

@@ -39,7 +39,7 @@ active s w = (closed s w && not (normallyClosed s w)) || (not (closed s w) && no
 unfoldable pub blocked : ℕ → Motor → Bool
 blocked going m = enabled (switchOf going) (m .wiring) && active (switchOf going) (m .wiring)
 
--- "the end of the range" in a direction: "+2,147,483,647" CW, "-2,147,483,647" CCW
+-- 02 §5: "the end of the range", in a direction: "+2,147,483,647" CW, "-2,147,483,647" CCW
 abbrev pub rangeEnd : ℕ → ℕ
 rangeEnd going = cond (eqb going cw) highest lowest
 
