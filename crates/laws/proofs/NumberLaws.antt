@@ -1,7 +1,7 @@
 -- The numbers handed back, for every table and all inputs. Assumes nothing.
 use mathlib.Core.Path.{_≡_, refl, sym, _∙_}
 use mathlib.Core.List.{List, []}
-use mathlib.Core.Bool.{Bool, true, false, _&&_, _||_, not, cond, false≢true}
+use mathlib.Core.Bool.{Bool, true, false, _&&_, _||_, not, false≢true}
 use Prim.Native.Nat.{ℕ, _%_, _≤_}
 use native.Mathlib.Omega.{arith}
 use lib.ListN.{length}
@@ -9,7 +9,7 @@ use lib.Dec.{eqb, leb}
 use borrow.Author.Tests.{eq-eqb, ne-eqb, eqb-true, le-leb}
 use Rattle.motor.specs.Sound.{busy}
 use Rattle.drive.specs.declared.Verdict.{Verdict}
-use Rattle.drive.specs.declared.Verdict.the-variants.{Done, Busy, OutOfRange, LocalMode, NotDriving}
+use Rattle.drive.specs.declared.Verdict.the-variants.{Done, NotDriving}
 use Rattle.drive.specs.Numbers.{numberOf, isSilent, isRefusal}
 use Rattle.drive.proofs.NumberLaws.{numbered}
 use Rattle.line.specs.declared.Order.{Order}
@@ -17,13 +17,12 @@ use Rattle.line.specs.declared.Order.the-variants.{Go, Stop, StopAll, ChangeSpe
 use Rattle.line.specs.declared.Parsed.{Parsed}
 use Rattle.line.specs.declared.Parsed.the-variants.{Is, Nothing}
 use Rattle.line.specs.Forms.{orderOf}
-use Rattle.table.specs.Layout.{tableSize, headOf, motorAt}
+use Rattle.table.specs.Layout.{tableSize, motorAt}
 use Rattle.table.specs.Sound.{soundTable}
-use Rattle.orders.specs.Values.{needsRemote, valueInRange}
-use Rattle.commands.specs.Judging.{meetsBusy, judgeMotor, judge}
+use Rattle.commands.specs.Judging.{judgeMotor, judge}
 use Rattle.commands.specs.Changing.{flagged}
 use Rattle.obeying.specs.Taking.{refused, obeyed}
-use Rattle.obeying.proofs.NumberLaws.{refused-number, obeyed-number}
+use Rattle.obeying.proofs.NumberLaws.{either, judge-passes, refused-number, obeyed-number}
 use Rattle.urqolina.specs.Calls.{commandCall}
 use Rattle.urqolina.proofs.Refusals.{fresh-made, fresh-refused, command-size, command-unsound, reading-size, reading-unsound, tick-size, tick-unsound, reading-accepted, tick-accepted}
 use Rattle.laws.specs.Sequences.{urqolina, Call, command, reading, tick, After, after}
@@ -103,22 +102,18 @@ split t (tick p) = tick-ways (λ a. a .result % 256 ≡ 4 → ⊥) t p (λ n h. 
 abbrev hinders : ℕ → Bool
 hinders n = leb 8 n && leb n 12
 
-unhindered : (t : List ℕ) (o : Order) → starting o ≡ false → hinders (numberOf (judge t o)) ≡ false
-unfolding judge judgeMotor numberOf
-unhindered t o i =
-    one-of (needsRemote o && eqb (headOf t .mode) 0) LocalMode _ refl
-    (one-of (not (valueInRange o)) OutOfRange _ refl
-    (one-of (meetsBusy t o) Busy (judgeMotor t o) refl (by-motor o i)))
-  where
-    one-of : (b : Bool) (v w : Verdict) → hinders (numberOf v) ≡ false → hinders (numberOf w) ≡ false → hinders (numberOf (cond b v w)) ≡ false
-    one-of true v w hv hw = hv
-    one-of false v w hv hw = hw
+abbrev unhindering : Verdict → Bool
+unhindering v = not (hinders (numberOf v))
 
-    by-motor : (o : Order) → starting o ≡ false → hinders (numberOf (judgeMotor t o)) ≡ false
+unhindered : (t : List ℕ) (o : Order) → starting o ≡ false → unhindering (judge t o) ≡ true
+unfolding judgeMotor numberOf
+unhindered t o i = judge-passes unhindering t o refl refl refl (by-motor o i)
+  where
+    by-motor : (o : Order) → starting o ≡ false → unhindering (judgeMotor t o) ≡ true
     by-motor (Go x s) i = absurd (false≢true (sym i))
     by-motor (Stop x e) i = refl
     by-motor (StopAll e) i = refl
-    by-motor (ChangeSpeed x v) i = one-of (busy (motorAt t x)) Done NotDriving refl refl
+    by-motor (ChangeSpeed x v) i = either unhindering (busy (motorAt t x)) Done NotDriving refl refl
     by-motor (Set x s) i = refl
     by-motor (Ask x q) i = refl
     by-motor (AskHead q) i = refl
@@ -133,7 +128,7 @@ starts t line reply n low high e = sized (sizesRight t (command line reply)) ref
       where
         go : (b : Bool) → starting o ≡ b → starting o ≡ true
         go true i = i
-        go false i = absurd (false≢true (sym (unhindered t o i) ∙ h))
+        go false i = absurd (false≢true (rw h at (unhindered t o i)))
 
     number : hinders n ≡ true
     number = rw (le-leb 8 n low, le-leb n 12 high)

@@ -43,19 +43,19 @@ judged-value t o e = local (needsRemote o && eqb (headOf t .mode) 0) e
 abbrev pub judged : Verdict → Bool
 judged v = eqb (numberOf v) 0 || isRefusal (numberOf v)
 
--- one of two such verdicts is one
-either : (b : Bool) (v w : Verdict) → judged v ≡ true → judged w ≡ true → judged (cond b v w) ≡ true
-either true v w hv hw = hv
-either false v w hv hw = hw
+-- One of two verdicts passes a test that both pass.
+pub either : (test : Verdict → Bool) (b : Bool) (v w : Verdict) → test v ≡ true → test w ≡ true → test (cond b v w) ≡ true
+either test true v w hv hw = hv
+either test false v w hv hw = hw
 
 hindrance-judged : (m : Motor) (going : ℕ) → judged (hindrance m going) ≡ true
 unfolding hindrance numberOf
 hindrance-judged m going =
-    either (eqb (m .setup .a) 0) Disabled _ refl
-    (either (unread (m .wiring)) Unread _ refl
-    (either (blocked going m) SwitchAhead _ refl
-    (either (atRangeEnd m going) AtRangeEnd _ refl
-    (either (eqb (room going m) 0) AtLimit Done refl refl))))
+    either judged (eqb (m .setup .a) 0) Disabled _ refl
+    (either judged (unread (m .wiring)) Unread _ refl
+    (either judged (blocked going m) SwitchAhead _ refl
+    (either judged (atRangeEnd m going) AtRangeEnd _ refl
+    (either judged (eqb (room going m) 0) AtLimit Done refl refl))))
 
 start-judged : (m : Motor) (c : Course) → judged (judgeStart m c) ≡ true
 unfolding judgeStart numberOf
@@ -69,19 +69,25 @@ unfolding judgeMotor numberOf
 motor-judged t (Go x s) = start-judged (motorAt t x) (courseOf (motorAt t x) s)
 motor-judged t (Stop x e) = refl
 motor-judged t (StopAll e) = refl
-motor-judged t (ChangeSpeed x v) = either (busy (motorAt t x)) Done NotDriving refl refl
+motor-judged t (ChangeSpeed x v) = either judged (busy (motorAt t x)) Done NotDriving refl refl
 motor-judged t (Set x s) = refl
 motor-judged t (Ask x q) = refl
 motor-judged t (AskHead q) = refl
 motor-judged t (ForHead h) = refl
 
+-- What an order is judged passes a test that local mode, a bad value and busy pass, and what lies in the motor.
+pub judge-passes : (test : Verdict → Bool) (t : List ℕ) (o : Order) → test LocalMode ≡ true → test OutOfRange ≡ true → test Busy ≡ true
+    → test (judgeMotor t o) ≡ true → test (judge t o) ≡ true
+unfolding judge
+judge-passes test t o local value busy motor =
+    either test (needsRemote o && eqb (headOf t .mode) 0) LocalMode _ local
+    (either test (not (valueInRange o)) OutOfRange _ value
+    (either test (meetsBusy t o) Busy (judgeMotor t o) busy motor))
+
 -- Whatever judges an order, it is done or refused.
 pub judge-judged : (t : List ℕ) (o : Order) → judged (judge t o) ≡ true
-unfolding judge numberOf
-judge-judged t o =
-    either (needsRemote o && eqb (headOf t .mode) 0) LocalMode _ refl
-    (either (not (valueInRange o)) OutOfRange _ refl
-    (either (meetsBusy t o) Busy (judgeMotor t o) refl (motor-judged t o)))
+unfolding numberOf
+judge-judged t o = judge-passes judged t o refl refl refl (motor-judged t o)
 
 -- So an order that is not done is refused.
 pub refused-judged : (t : List ℕ) (o : Order) → eqb (numberOf (judge t o)) 0 ≡ false → isRefusal (numberOf (judge t o)) ≡ true
