@@ -73,7 +73,7 @@ refusal-told n h = go (eqb n 5) refl (eqb n 6) refl
     go false e true f s = false≢true (rw (eqb-true n 6 f) at h)
     go false e false f s = false≢true s
 
--- So does every call.
+-- So every call leaves them, where it gives 5 or 6.
 nothing : (t : List ℕ) (k : Call) → Left t (lent k) (after urqolina t k)
 unfolding after
 nothing t (command line reply) =
