@@ -1,5 +1,5 @@
 /*
- * Document 01 as amended by §1 to §5 of document 02, in plain C, written from the documents alone. It is compared with
+ * Document 01 as amended by §1 to §6 of document 02, in plain C, written from the documents alone. It is compared with
  * the proved library call by call, and the library's speed is measured beside it. Words in quotation marks are document
  * 01's, unless document 02 is named beside them.
  */
@@ -13,7 +13,7 @@
 enum { HEAD_SIZE = 64, RECORD_SIZE = 64, MOTORS = 16, TABLE_SIZE = 1088, REPLY_LEAST = 32, PULSES_SIZE = 64 };
 
 /* Places in the head. */
-enum { MODE = 0, ALL_REPLY = 1, ERROR_FLAGS = 2, PAUSE = 3, HEAD_ZEROS = 4 };
+enum { MODE = 0, ALL_REPLY = 1, ERROR_FLAGS = 2, PAUSE = 3, BUSY_SET = 4, HEAD_ZEROS = 6 };
 
 /* Places in a record. */
 enum {
@@ -130,6 +130,20 @@ static inline uint8_t *motor_of(uint8_t *table, uint32_t channel)
 
 /* ---- Switches, room and drives ---- */
 
+/*
+ * 02 §6: "Keep it in head bytes 4-5, bit c for channel c, held drives included." In a sound table it is the set of the
+ * records whose byte 32 is not 0, so a walk over the busy motors may pass the others by.
+ */
+static inline uint32_t busy_set(const uint8_t *table)
+{
+    return load2(table + BUSY_SET);
+}
+
+static inline uint32_t channel_bit(uint32_t channel)
+{
+    return (uint32_t)1 << channel;
+}
+
 /* 02 §3: "A held channel counts as driving for busy, stops and switch readings, but gets no pulses". */
 static inline bool busy(const uint8_t *motor)
 {
@@ -186,11 +200,16 @@ static inline int64_t target_distance(const uint8_t *motor, uint32_t direction)
     return ahead(direction, load_signed(motor + POSITION), load_signed(motor + TARGET));
 }
 
-/* "Ending zeroes bytes 32..43." Byte 44 is left: contacts once read stay known. */
-static inline void end_drive(uint8_t *motor, uint8_t flags)
+/*
+ * "Ending zeroes bytes 32..43." Byte 44 is left: contacts once read stay known. Every drive ends here, so its bit is
+ * cleared in the call that ends it.
+ */
+static inline void end_drive(uint8_t *table, uint32_t channel, uint8_t flags)
 {
+    uint8_t *motor = motor_of(table, channel);
     motor[END_FLAGS] = flags;
     memset(motor + STATE, 0, CONTACTS_KNOWN - STATE);
+    store2(table + BUSY_SET, busy_set(table) & ~channel_bit(channel));
 }
 
 /* ---- Soundness ---- */
@@ -264,16 +283,24 @@ static bool drive_sound(const uint8_t *motor, uint32_t state_most)
            !switch_ahead(motor, direction) && target_sound(motor, direction);
 }
 
-/* A stopped record has zeros from 32 to 43 and from 45 to its end; one with a bit set there must be a sound drive. */
-static bool motor_sound(const uint8_t *motor, uint32_t state_most)
+/* A stopped record has zeros from 32 to 43 and from 45 to its end. */
+static inline bool stopped_sound(const uint8_t *motor)
+{
+    return (any_bits(motor + 32) | any_bits(motor + 36) | zeros_bits(motor)) == 0;
+}
+
+/*
+ * 02 §6: "Soundness asks that it is true." A record in the busy set must be a sound drive, which is never stopped; one
+ * that is not in it must be stopped.
+ */
+static bool motor_sound(const uint8_t *motor, bool in_busy_set, uint32_t state_most)
 {
     if (!settings_sound(motor) || !known_sound(motor))
         return false;
-    uint64_t bits = any_bits(motor + 32) | any_bits(motor + 36) | zeros_bits(motor);
-    return bits == 0 || drive_sound(motor, state_most);
+    return in_busy_set ? drive_sound(motor, state_most) : stopped_sound(motor);
 }
 
-/* The zeros are looked at from 4 to 11 and from 8 on. */
+/* The zeros are looked at from 6 to 13 and from 8 on. */
 static bool head_sound(const uint8_t *table)
 {
     uint64_t bits = any_bits(table + HEAD_ZEROS);
@@ -282,14 +309,18 @@ static bool head_sound(const uint8_t *table)
     return table[MODE] <= REMOTE && table[ALL_REPLY] <= 1 && table[ERROR_FLAGS] <= 15 && table[PAUSE] <= 1 && bits == 0;
 }
 
-/* 02 §3: "a held record is sound only under pause". A record can't tell that, so the head sets the most of byte 32. */
+/*
+ * 02 §3: "a held record is sound only under pause". A record can't tell that, so the head sets the most of byte 32. Nor
+ * can it tell its bit of the busy set; channel 0's is the lowest.
+ */
 static bool table_sound(const uint8_t *table)
 {
     if (!head_sound(table))
         return false;
     uint32_t state_most = table[PAUSE] == 0 ? CCW : HELD_CCW;
-    for (const uint8_t *motor = table + HEAD_SIZE; motor < table + TABLE_SIZE; motor += RECORD_SIZE)
-        if (!motor_sound(motor, state_most))
+    uint32_t set = busy_set(table);
+    for (const uint8_t *motor = table + HEAD_SIZE; motor < table + TABLE_SIZE; motor += RECORD_SIZE, set >>= 1)
+        if (!motor_sound(motor, (set & 1) != 0, state_most))
             return false;
     return true;
 }
@@ -314,8 +345,8 @@ enum verb {
     STOP, STOP_ALL,
     SET_PLACE, SELECT_OR_SET_SPEED, SET_LS, SET_MT,
     SET_MODE, SET_ALL_REPLY, SET_PAUSE, CLEAR_ERRORS,
-    READ_PLACE, READ_SELECTED, READ_SPEED, READ_LS, READ_MT, READ_STATUS, READ_ALL_REPLY, READ_PAUSE, READ_FLAGS,
-    READ_ERROR
+    READ_PLACE, READ_SELECTED, READ_SPEED, READ_LS, READ_MT, READ_STATUS, READ_ALL_REPLY, READ_PAUSE, READ_BUSY_SET,
+    READ_FLAGS, READ_ERROR
 };
 
 /* The detail is the direction, end flag, place in the record, speed or value that tells forms of one verb apart. */
@@ -349,6 +380,7 @@ static const struct form FORMS_A[] = {
 static const struct form FORMS_B[] = {
     FORM("BL?", CHANNEL, READ, READ_PLACE, CCW_LIMIT),
     FORM("BL", CHANNEL_SIGNED, REMOTE_STOPPED, SET_PLACE, CCW_LIMIT),
+    FORM("BSY?", NOTHING, READ, READ_BUSY_SET, 0),
     NO_FORM
 };
 static const struct form FORMS_E[] = {
@@ -663,10 +695,12 @@ static inline uint32_t start_refusal(const uint8_t *motor, uint32_t direction)
 
 /*
  * "A start takes the selected speed, fraction 0, and clears the end flags." A stopped motor's fraction is 0 already.
- * 02 §3: under pause "an accepted start is a held drive"; byte 32 alone tells it from one that runs.
+ * 02 §3: under pause "an accepted start is a held drive"; byte 32 alone tells it from one that runs, and both are in
+ * the busy set from here on.
  */
-static uint32_t start(const uint8_t *table, uint8_t *motor, uint8_t direction, uint8_t kind, int32_t target)
+static uint32_t start(uint8_t *table, uint32_t channel, uint8_t direction, uint8_t kind, int32_t target)
 {
+    uint8_t *motor = motor_of(table, channel);
     uint32_t number = start_refusal(motor, direction);
     if (number != OK)
         return number;
@@ -675,51 +709,59 @@ static uint32_t start(const uint8_t *table, uint8_t *motor, uint8_t direction, u
     motor[KIND] = kind;
     store4(motor + SPEED_IN_FORCE, load4(motor + speed_place(motor[SELECTED])));
     store4(motor + TARGET, (uint32_t)target);
+    store2(table + BUSY_SET, busy_set(table) | channel_bit(channel));
     return OK;
 }
 
 /* "ABS to the present position, REL 0 [...] are OK and change nothing", on an unread channel and under pause too. */
-static uint32_t start_to(const uint8_t *table, uint8_t *motor, int64_t target)
+static uint32_t start_to(uint8_t *table, uint32_t channel, int64_t target)
 {
-    int32_t position = load_signed(motor + POSITION);
+    int32_t position = load_signed(motor_of(table, channel) + POSITION);
     if (target == position)
         return OK;
     if (target < -POSITION_MOST || target > POSITION_MOST)
         return PARAMETER_ERROR;
-    return start(table, motor, target > position ? CW : CCW, TO_TARGET, (int32_t)target);
+    return start(table, channel, target > position ? CW : CCW, TO_TARGET, (int32_t)target);
 }
 
-static uint32_t start_by(const uint8_t *table, uint8_t *motor, int32_t distance)
+static uint32_t start_by(uint8_t *table, uint32_t channel, int32_t distance)
 {
-    return start_to(table, motor, (int64_t)load_signed(motor + POSITION) + distance);
+    return start_to(table, channel, (int64_t)load_signed(motor_of(table, channel) + POSITION) + distance);
 }
 
 /* A stop on a stopped motor is OK and changes nothing. */
-static void stop(uint8_t *motor, uint8_t flag)
+static void stop(uint8_t *table, uint32_t channel, uint8_t flag)
 {
-    if (busy(motor))
-        end_drive(motor, flag);
+    if (busy(motor_of(table, channel)))
+        end_drive(table, channel, flag);
 }
 
+/* The walk is over the set as it was before the first drive ends. */
 static void stop_all(uint8_t *table, uint8_t flag)
 {
-    for (uint32_t channel = 0; channel < MOTORS; channel++)
-        stop(motor_of(table, channel), flag);
+    for (uint32_t channel = 0, set = busy_set(table); set != 0; channel++, set >>= 1)
+        if ((set & 1) != 0)
+            end_drive(table, channel, flag);
 }
 
 /*
- * 02 §3: "OFF releases all". A motor that runs or is stopped has its direction in byte 32 already. A released drive
- * keeps the fraction 0 of its start and the speed of its last SPC, so its ticks count from here.
+ * A motor that runs has its direction in byte 32 already. A released drive keeps the fraction 0 of its start and the
+ * speed of its last SPC, so its ticks count from here.
  */
+static inline void release(uint8_t *motor)
+{
+    motor[STATE] = (uint8_t)direction_of(motor);
+}
+
+/* 02 §3: "OFF releases all". A held drive is in the busy set already, and a released one stays there. */
 static void set_pause(uint8_t *table, uint8_t pause)
 {
     table[PAUSE] = pause;
     if (pause != 0)
         return;
-    for (uint32_t channel = 0; channel < MOTORS; channel++) {
-        uint8_t *motor = motor_of(table, channel);
-        motor[STATE] = (uint8_t)direction_of(motor);
-    }
+    for (uint32_t channel = 0, set = busy_set(table); set != 0; channel++, set >>= 1)
+        if ((set & 1) != 0)
+            release(motor_of(table, channel));
 }
 
 /*
@@ -756,20 +798,21 @@ static uint32_t refusal(const uint8_t *table, const uint8_t *motor, const struct
 }
 
 /* The orders that meet checks after busy. */
-static uint32_t drive(const uint8_t *table, uint8_t *motor, const struct order *order)
+static uint32_t drive(uint8_t *table, const struct order *order)
 {
+    uint32_t channel = order->channel;
     uint8_t detail = order->form->detail;
     switch (order->form->verb) {
     case GO_TO:
-        return start_to(table, motor, order->number);
+        return start_to(table, channel, order->number);
     case GO_BY:
-        return start_by(table, motor, order->number);
+        return start_by(table, channel, order->number);
     case JOG:
-        return start_by(table, motor, detail == CW ? 1 : -1);
+        return start_by(table, channel, detail == CW ? 1 : -1);
     case GO_SCAN:
-        return start(table, motor, detail, SCAN, 0);
+        return start(table, channel, detail, SCAN, 0);
     default:
-        return change_speed(motor, order->speed);
+        return change_speed(motor_of(table, channel), order->speed);
     }
 }
 
@@ -778,7 +821,7 @@ static uint32_t obey(uint8_t *table, uint8_t *motor, const struct order *order)
     uint8_t detail = order->form->detail;
     switch (order->form->verb) {
     case STOP:
-        stop(motor, detail);
+        stop(table, order->channel, detail);
         return OK;
     case STOP_ALL:
         stop_all(table, detail);
@@ -808,7 +851,7 @@ static uint32_t obey(uint8_t *table, uint8_t *motor, const struct order *order)
         table[ERROR_FLAGS] = (uint8_t)(table[ERROR_FLAGS] & ~order->number);
         return OK;
     default:
-        return drive(table, motor, order);
+        return drive(table, order);
     }
 }
 
@@ -847,6 +890,12 @@ static size_t write_hex2(uint8_t *to, uint32_t byte)
     to[0] = HEX[byte >> 4];
     to[1] = HEX[byte & 15];
     return 2;
+}
+
+/* 02 §6: "four hex digits". The highest is first: channel F is the 8 of the first, channel 0 the 1 of the last. */
+static size_t write_busy_set(uint8_t *to, uint32_t set)
+{
+    return write_hex2(to, set >> 8) + write_hex2(to + 2, set & 0xff);
 }
 
 /* At least so many digits. */
@@ -954,6 +1003,8 @@ static size_t answer(uint8_t *reply, const uint8_t *table, const uint8_t *motor,
         return write_text(reply, &ALL_REPLY_TEXTS[table[ALL_REPLY]]);
     case READ_PAUSE:
         return write_text(reply, &PAUSE_TEXTS[table[PAUSE]]);
+    case READ_BUSY_SET:
+        return write_busy_set(reply, busy_set(table));
     case READ_FLAGS:
         return write_hex2(reply, table[ERROR_FLAGS]);
     default:
@@ -969,8 +1020,9 @@ static inline int64_t lesser(int64_t one, int64_t other)
 }
 
 /* One tick of a moving motor, whose byte 32 is its direction; its count, CW positive. At most 5,000 pulses are due. */
-static int32_t tick_motor(uint8_t *motor)
+static int32_t tick_motor(uint8_t *table, uint32_t channel)
 {
+    uint8_t *motor = motor_of(table, channel);
     uint32_t direction = motor[STATE];
     uint32_t sum = load2(motor + FRACTION) + load4(motor + SPEED_IN_FORCE);
     int64_t room_left = room(motor, direction);
@@ -979,9 +1031,9 @@ static int32_t tick_motor(uint8_t *motor)
     int32_t count = direction == CW ? given : -given;
     store4(motor + POSITION, load4(motor + POSITION) + (uint32_t)count);
     if (given == distance)
-        end_drive(motor, NO_END);
+        end_drive(table, channel, NO_END);
     else if (given == room_left)
-        end_drive(motor, LSEND);
+        end_drive(table, channel, LSEND);
     else
         store2(motor + FRACTION, sum % 1000);
     return count;
@@ -989,7 +1041,10 @@ static int32_t tick_motor(uint8_t *motor)
 
 /* ---- The four calls ---- */
 
-/* 02 §2: "Contacts must be unknown until the channel's first accepted reading." Contacts and byte 44 are 0. */
+/*
+ * 02 §2: "Contacts must be unknown until the channel's first accepted reading." Contacts and byte 44 are 0. All motors
+ * are stopped, so the busy set is 0 too.
+ */
 uint32_t model_fresh(uint8_t *table, size_t table_size)
 {
     if (table_size != TABLE_SIZE)
@@ -1045,20 +1100,20 @@ uint32_t model_reading(uint8_t *table, size_t table_size, uint32_t channel, uint
     motor[CONTACTS] = (uint8_t)contacts;
     motor[CONTACTS_KNOWN] = 1;
     if (switch_ahead(motor, direction_of(motor)))
-        end_drive(motor, LSEND);
+        end_drive(table, channel, LSEND);
     return OK;
 }
 
+/* A held drive is in the busy set, "but gets no pulses", 02 §3. The walk is over the set as it was before the tick. */
 uint32_t model_tick(uint8_t *table, size_t table_size, uint8_t *pulses, size_t pulses_size)
 {
     if (table_size != TABLE_SIZE || pulses_size != PULSES_SIZE)
         return WRONG_SIZE;
     if (!table_sound(table))
         return NOT_SOUND;
-    for (uint32_t channel = 0; channel < MOTORS; channel++) {
-        uint8_t *motor = motor_of(table, channel);
-        int32_t count = moving(motor) ? tick_motor(motor) : 0;
-        store4(pulses + 4 * channel, (uint32_t)count);
-    }
+    memset(pulses, 0, PULSES_SIZE);
+    for (uint32_t channel = 0, set = busy_set(table); set != 0; channel++, set >>= 1)
+        if ((set & 1) != 0 && moving(motor_of(table, channel)))
+            store4(pulses + 4 * channel, (uint32_t)tick_motor(table, channel));
     return OK;
 }

@@ -1,11 +1,14 @@
 /*
- * Document 01 as amended by §1 to §5 of document 02, in plain C: the sixteen-axis pulse controller, written from the
+ * Document 01 as amended by §1 to §6 of document 02, in plain C: the sixteen-axis pulse controller, written from the
  * documents alone. It is there to be compared with the proved library call by call, and to measure the library's speed
  * beside.
  *
  * The four calls take the library's buffers and answer its numbers. The host sees to it that every pointer is to as
  * many bytes as the length beside it says and is never null, that the buffers of one call do not overlap, and that one
  * call at a time runs on one table. All else is judged by the calls: any bytes, any lengths, any numbers.
+ *
+ * After every call that answers other than 5 or 6, bytes 4 and 5 of the table hold the busy set: channel 0 is bit 0 of
+ * byte 4, channel F bit 7 of byte 5. The host may read it there, and write it never.
  */
 #ifndef MODEL_H
 #define MODEL_H
