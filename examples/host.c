@@ -50,21 +50,35 @@ static int power_up(void)
     return 1;
 }
 
-/* One millisecond: a refused tick gives no pulse, and its buffer is not looked at. */
-static void tick(unsigned millisecond)
+/* One millisecond; gives whether the tick was taken. Only channels that are busy when it comes have pulses, so no other count
+   is looked at. The set is taken before the tick: a drive that ends in it is out of the set afterwards, and its last pulses
+   stand in the buffer. A refused tick gives no pulse, and its buffer is not looked at. */
+static int tick(unsigned millisecond)
 {
+    uint32_t busy = urqolina_busy(table);
     uint32_t number = urqolina_tick(table, sizeof table, pulses, sizeof pulses);
     if (number != URQOLINA_OK) {
         printf("tick %u", millisecond);
         print_number(number);
         printf("\n");
-        return;
+        return 0;
     }
-    for (uint32_t channel = 0; channel < URQOLINA_CHANNELS; channel++) {
-        int32_t count = urqolina_count(pulses, channel);
+    for (uint32_t channel = 0; busy != 0; channel++, busy >>= 1) {
+        int32_t count = (busy & 1u) != 0 ? urqolina_count(pulses, channel) : 0;
         if (count != 0)
             printf("tick %u: channel %X %+ld\n", millisecond, channel, (long)count);
     }
+    return 1;
+}
+
+/* Ticks until no motor is busy, and gives the millisecond reached. A held motor, or a scan with nothing ahead of it, would be
+   waited for in vain: so there is a bound. */
+static unsigned tick_until_idle(unsigned now, unsigned most)
+{
+    int taken = 1;
+    while (taken && urqolina_busy(table) != 0 && now < most)
+        taken = tick(++now);
+    return now;
 }
 
 int main(void)
@@ -80,8 +94,10 @@ int main(void)
     send("ESTP5");
     send("ABS0+3");   /* 800 pulses a second: 0.8 of a pulse a tick, and the fraction is carried */
     send("SCANNB");
+    send("BSY?");     /* bit 11 and bit 0: channels B and 0 are busy */
     while (now < 4)
         tick(++now);
+    send("BSY?");     /* channel 0 is at its target, and B scans on */
     send("STS0?");
     wires[0xB] = 2;   /* the CCW switch of channel B closes, and ends its drive */
     printf("switches B -> %u\n", read_switches(0xB));
@@ -94,11 +110,12 @@ int main(void)
     send("REL2-2");
     send("STS1?");
     tick(++now);
+    send("BSY?");       /* they are busy from their start on */
     send("PAUSE OFF");
-    while (now < 9)
-        tick(++now);
+    now = tick_until_idle(now, 100);
+    send("BSY?");
 
-    table[4] = 1;   /* a damaged table is found out, and nothing is done on it */
+    table[4] = 1;   /* the set has channel 0, which stands: a damaged table is found out, and nothing is done on it */
     send("PS?0");
     tick(++now);
     return 0;

@@ -48,15 +48,18 @@ extern "C" {
  *   version 4: PAUSE ON, PAUSE OFF and PAUSE?, and drives that are held between them
  *   version 5: 4 is no longer given; 7 to 13 stand in its place, one for each cause, and all else is as it was. New is
  *              urqolina_advice
+ *   version 6: the set of busy channels in the table, and BSY?, which answers it. New is urqolina_busy
  *   layout 1: a head of 64 bytes and sixteen records of 64, as document 01 has them
  *   layout 2: byte 44 of a record is 0 while its contacts are unknown, and byte 26 then is 0 too, or 1 once they are
  *             read. Of the tables of layout 1, one with a closed contact or a driving motor is answered 6, and the
  *             others are taken as unread
  *   layout 3: byte 3 of the head is 1 while pause is on, and byte 32 of a record is 3 (CW) or 4 (CCW) while its drive is
  *             held. Every table of layout 2 means the same in this one
+ *   layout 4: bytes 4 and 5 of the head are the set of busy channels, low byte first. Of the tables of layout 3, one with
+ *             a driving or held motor is answered 6, and every other means the same
  */
-#define URQOLINA_VERSION 5
-#define URQOLINA_LAYOUT 3
+#define URQOLINA_VERSION 6
+#define URQOLINA_LAYOUT 4
 
 /*
  * Motors that leave together. After PAUSE ON an accepted start is held: the channel is busy, and no tick moves it or counts
@@ -67,6 +70,20 @@ extern "C" {
  * its coming speed, and ends by a stop or by the switch of its direction as a driving one does. Pause and held drives last
  * through LOC, where PAUSE OFF is 7: a host that goes to local mode stops what it has held, or comes back to release it.
  * They are in the table too: one that is kept and restored holds what it held until PAUSE OFF or its end. PAUSE? tells.
+ */
+
+/*
+ * Which motors are busy. The table keeps the set, so that the host need not walk sixteen records at each tick to learn which
+ * drive: urqolina_busy reads it, bit c for channel c, and BSY? answers it in four hex digits, channel F in the first and
+ * channel 0 in the last. In a sound table it is true after every call: a channel is in it from its accepted start on, held or
+ * driving, until the call that ends its drive, be that a stop, a reading or a tick. So after the tick of its last pulses a
+ * channel is no longer busy, while those pulses stand in the pulse buffer. A host that looks at the counts of busy channels
+ * alone takes the set before the tick:
+ *   uint16_t busy = urqolina_busy(table);
+ *   urqolina_tick(table, sizeof table, pulses, sizeof pulses);
+ * The host reads the set and never writes it: a table in which it is not true is answered 6. It is read between calls, since
+ * in the midst of one its two bytes and the records need not agree; where ticks are taken in an interrupt, it is read there
+ * or with that interrupt held off.
  */
 
 /* The sizes of the buffers, in bytes. */
@@ -143,6 +160,12 @@ static inline int32_t urqolina_count(const uint8_t *pulses, uint32_t channel)
     const uint8_t *p = pulses + 4u * channel;
     uint32_t word = (uint32_t)p[0] | (uint32_t)p[1] << 8 | (uint32_t)p[2] << 16 | (uint32_t)p[3] << 24;
     return word < 0x80000000u ? (int32_t)word : -(int32_t)(0xffffffffu - word) - 1;
+}
+
+/* The set of busy channels, driving or held, of a table between calls: channel c is bit c. */
+static inline uint16_t urqolina_busy(const uint8_t *table)
+{
+    return (uint16_t)((uint32_t)table[4] | (uint32_t)table[5] << 8);
 }
 
 /*
