@@ -8,7 +8,7 @@
  *
  * What is held against each of the two besides: no byte outside a lent buffer is touched, read or written (bytes of a known
  * value around it, and pages that can't be touched beside those), a line is never written, 5 and 6 write nothing, every other
- * refusal writes its error flag and its text alone, and the bytes past a reply stay.
+ * refusal writes its error flag and its text alone, the bytes past a reply stay, and after every other call the busy set is true.
  *
  * Where MODEL_ALONE is defined the model stands on both sides: for the sanitizers, which the library is not built for.
  */
@@ -203,6 +203,14 @@ static void compare_refusal(uint32_t number)
     must_keep(&table, FLAGS + 1, "a refused line changed more than its flag, by ");
 }
 
+/* Where a call is not answered 5 or 6, the busy set is true after it. */
+static void compare_busy_set(void)
+{
+    for (int side = 0; side < SIDES; side++)
+        if (urqolina_busy(copy_of(&table, side)) != draw_busy_set(copy_of(&table, side)))
+            differs("the busy set is not true, by ", side_names[side]);
+}
+
 static void compare(void)
 {
     static const struct lent *const all[] = {&table, &line, &reply, &pulses};
@@ -214,6 +222,8 @@ static void compare(void)
     for (int k = 0; k < 4; k++)
         if (is_lent(all[k]))
             compare_buffer(all[k], number);
+    if (number != URQOLINA_WRONG_SIZE && number != URQOLINA_NOT_SOUND)
+        compare_busy_set();
     if (call.kind == COMMAND) {
         if (number != URQOLINA_OK && number != URQOLINA_WRONG_SIZE && number != URQOLINA_NOT_SOUND)
             compare_refusal(number);
@@ -571,13 +581,23 @@ static void read_written(const char *text)
     make_call(READING);
 }
 
-/* Makes the readings and sends the lines that stand before a step, one after the other. */
+/* Makes a tick, in a pulse buffer of the right size. */
+static void make_tick(void)
+{
+    lend_any(&pulses, URQOLINA_PULSES_SIZE);
+    make_call(TICK);
+}
+
+/* Makes the readings and ticks and sends the lines that stand before a step, one after the other. */
 static void send_before(const char *lines)
 {
     while (lines != NULL && *lines != '\0') {
         size_t size = strcspn(lines, ";");
-        if (lines[1] == ' ')
+        if (strncmp(lines, "S ", 2) == 0)
             read_written(lines);
+        else if (strncmp(lines, "T ", 2) == 0)
+            for (uint32_t k = (uint32_t)strtoul(lines + 2, NULL, 10); k > 0; k--)
+                make_tick();
         else
             send_line(lines, size, URQOLINA_REPLY_SIZE);
         if ((call.results[LIBRARY] & 0xff) != URQOLINA_OK)
@@ -600,9 +620,7 @@ static void make_step(const struct step *s)
     make_call(FRESH);
     send_before(s->before);
     memcpy(bytes, copy_of(&table, MODEL), URQOLINA_TABLE_SIZE);
-    /* channel 0 at -2,147,483,648, where no motor can be */
-    if (s->damaged)
-        memcpy(bytes + 64, "\0\0\0\x80", 4);
+    tour_damage(s, bytes);
     lend_table(bytes, size_off(URQOLINA_TABLE_SIZE, s->table));
     lend_any(&pulses, size_off(URQOLINA_PULSES_SIZE, s->pulses));
     call.channel = s->channel;

@@ -12,7 +12,7 @@ enum { HEAD = 64, RECORD = 64 };
 enum { POSITION = 0, CW_LIMIT = 4, CCW_LIMIT = 8, HSPD = 12, SELECTED = 24, SETLS = 25, CONTACTS = 26, SETMT = 27, ENDED = 31 };
 enum { GOING = 32, KIND = 33, FRACTION = 34, SPEED = 36, TARGET = 40, READ = 44 };
 enum { STOPPED, CW, CCW, HELD = 2 };
-enum { MODE = 0, ALL_REPLY = 1, FLAGS = 2, PAUSE = 3 };
+enum { MODE = 0, ALL_REPLY = 1, FLAGS = 2, PAUSE = 3, BUSY = 4, HEAD_ZEROS = 6 };
 
 static const int64_t END = 2147483647;
 
@@ -211,6 +211,20 @@ static void draw_drive(struct draw *d, uint8_t *record, bool paused)
     }
 }
 
+uint32_t draw_busy_set(const uint8_t *table)
+{
+    uint32_t set = 0;
+    for (int c = 0; c < 16; c++)
+        set |= (uint32_t)(table[HEAD + RECORD * c + GOING] != STOPPED) << c;
+    return set;
+}
+
+static void put_busy_set(uint8_t *table, uint32_t set)
+{
+    table[BUSY] = (uint8_t)set;
+    table[BUSY + 1] = (uint8_t)(set >> 8);
+}
+
 void draw_sound_table(struct draw *d, uint8_t *table)
 {
     static const uint8_t ends[] = {0, 0x20, 0x40, 0x80};
@@ -231,15 +245,36 @@ void draw_sound_table(struct draw *d, uint8_t *table)
                 draw_causes(d, record);
         }
     }
+    put_busy_set(table, draw_busy_set(table));
 }
 
-void draw_damage(struct draw *d, uint8_t *table)
+/* The busy set as it may go wrong: a channel too many or too few, its bytes in the other order, held drives left out, none in it, or
+   anything. */
+static void damage_busy_set(struct draw *d, uint8_t *table)
+{
+    uint32_t set = (uint32_t)table[BUSY] | (uint32_t)table[BUSY + 1] << 8;
+    switch (draw_below(d, 8)) {
+    case 0: set = set >> 8 | set << 8; break;
+    case 1: set = draw_below(d, 65536); break;
+    case 2: set = 0; break;
+    case 3:
+        for (int c = 0; c < 16; c++)
+            if (table[HEAD + RECORD * c + GOING] > CCW)
+                set &= ~(1u << c);
+        break;
+    default: set ^= 1u << draw_below(d, 16); break;
+    }
+    put_busy_set(table, set);
+}
+
+/* Damages a byte or a number, whatever comes of the busy set. */
+static void damage_field(struct draw *d, uint8_t *table)
 {
     static const uint8_t words[] = {POSITION, CW_LIMIT, CCW_LIMIT, HSPD, HSPD + 4, HSPD + 8, SPEED, TARGET};
     uint8_t *record = table + HEAD + RECORD * draw_below(d, 16);
     uint8_t *byte = table + draw_below(d, URQOLINA_TABLE_SIZE);
     uint32_t word;
-    switch (draw_below(d, 8)) {
+    switch (draw_below(d, 9)) {
     case 0:
         word = draw_word(d);
         put(record + words[draw_below(d, sizeof words)], word);
@@ -248,12 +283,26 @@ void draw_damage(struct draw *d, uint8_t *table)
     case 2: break;
     case 3: byte = record + (draw_once_in(d, 2) ? CONTACTS : READ); break;
     case 4: byte = draw_once_in(d, 2) ? table + PAUSE : record + GOING; break;
+    case 5: byte = table + HEAD_ZEROS + draw_below(d, 2); break;
     default: byte = record + SELECTED + draw_below(d, READ + 2 - SELECTED); break;
     }
     if (draw_once_in(d, 2))
         *byte = (uint8_t)(*byte ^ 1u << draw_below(d, 8));
     else
         *byte = (uint8_t)(draw_once_in(d, 2) ? *byte + 1u : draw_below(d, 256));
+}
+
+/* Where a record has come to be busy or has ceased to be, the busy set is made true half the time, so that another rule decides. */
+void draw_damage(struct draw *d, uint8_t *table)
+{
+    uint32_t set = draw_busy_set(table);
+    if (draw_once_in(d, 6)) {
+        damage_busy_set(d, table);
+        return;
+    }
+    damage_field(d, table);
+    if (draw_busy_set(table) != set && draw_once_in(d, 2))
+        put_busy_set(table, draw_busy_set(table));
 }
 
 /*
@@ -265,7 +314,7 @@ static const char *const forms[] = {
     "SPCxu",  "PSxs",   "FLxs",   "BLxs",   "SPDHx",  "SPDMx",  "SPDLx",      "SPDHxu",     "SPDMxu",         "SPDLxu",
     "PS?x",   "FL?x",   "BL?x",   "SPD?x",  "SPDH?x", "SPDM?x", "SPDL?x",     "SETLS?x",    "SETMT?x",        "STSx?",
     "LOC",    "REM",    "ERRF?",  "ERR?",   "ERRC",   "ERRCe",  "ALL_REP EN", "ALL_REP DS", "SETLSxyyyy0yyy", "SETMTxyyzy",
-    "ALL_REP?", "PAUSE ON", "PAUSE OFF", "PAUSE?"};
+    "ALL_REP?", "PAUSE ON", "PAUSE OFF", "PAUSE?", "BSY?"};
 enum { STARTS = 6 };
 
 /* A signed number: near the channel's position, its limits or the ends of the range, small, or anything. */
@@ -375,7 +424,7 @@ size_t draw_line(struct draw *d, const uint8_t *table, uint8_t *line)
 /* A byte that lines have, or any. */
 static uint8_t draw_byte(struct draw *d)
 {
-    static const char some[] = "0123456789ABCDEFGHLMNOPRSTUX+-?_ abf\r\n/:;@`";
+    static const char some[] = "0123456789ABCDEFGHLMNOPRSTUXY+-?_ abf\r\n/:;@`";
     return draw_once_in(d, 3) ? (uint8_t)draw_below(d, 256) : (uint8_t)some[draw_below(d, sizeof some)];
 }
 

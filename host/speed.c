@@ -33,8 +33,11 @@ static const struct measured calls[] = {
     {"tick, 4 motors driving", TICK, "", 4, 0, 0, false, NULL},
     {"tick, 16 motors driving", TICK, "", 16, 0, 0, false, NULL},
     {"tick, 16 motors held", TICK, "", 16, 0, 0, true, NULL},
+    {"tick that ends a drive", TICK, "", 1, 0, 0, false, "SPC05000000"},
     {"PS?0", COMMAND, "PS?0", 0, 0, 0, false, NULL},
     {"PS?0, 16 motors driving", COMMAND, "PS?0", 16, 0, 0, false, NULL},
+    {"BSY?", COMMAND, "BSY?", 0, 0, 0, false, NULL},
+    {"BSY?, 16 motors driving", COMMAND, "BSY?", 16, 0, 0, false, NULL},
     {"STS0?", COMMAND, "STS0?", 0, 0, 0, false, NULL},
     {"ABS0+100, accepted", COMMAND, "ABS0+100", 0, 0, 0, false, NULL},
     {"ABS0100, accepted", COMMAND, "ABS0100", 0, 0, 0, false, NULL},
@@ -45,6 +48,7 @@ static const struct measured calls[] = {
     {"SCANP0, refused at the range's end", COMMAND, "SCANP0", 0, 12, 0, false, "PS0+2147483647"},
     {"SPC0400, refused as stopped", COMMAND, "SPC0400", 0, 13, 0, false, NULL},
     {"SETLS011110000", COMMAND, "SETLS011110000", 0, 0, 0, false, NULL},
+    {"AESTP, 0 motors driving", COMMAND, "AESTP", 0, 0, 0, false, NULL},
     {"AESTP, 16 motors driving", COMMAND, "AESTP", 16, 0, 0, false, NULL},
     {"PAUSE ON", COMMAND, "PAUSE ON", 0, 0, 0, false, NULL},
     {"PAUSE OFF, 16 motors held", COMMAND, "PAUSE OFF", 16, 0, 0, true, NULL},
@@ -52,7 +56,7 @@ static const struct measured calls[] = {
     {"garbled, xyz", COMMAND, "xyz", 0, 1, 0, false, NULL},
     {"reading", READING, "", 0, 0, 0, false, NULL},
     {"reading that ends a drive", READING, "", 1, 0, 0, false, NULL},
-    {"table not sound at its head", COMMAND, "PS?0", 0, 6, 4, false, NULL},
+    {"table not sound at its head", COMMAND, "PS?0", 0, 6, 63, false, NULL},
     {"table not sound at its end", COMMAND, "PS?0", 0, 6, 1087, false, NULL},
 };
 

@@ -67,7 +67,7 @@ static uint32_t measure_tick(void)
 }
 
 /* The tables: fresh, with these lines sent, all switches read or none, so many channels started and so many ticks passed. Where
-   damage is not 0, that byte is made 1, and the table is not sound. */
+   damage is not 0, that byte is made 1, and the table is not sound: in its busy set, at the end of its head, at its own end. */
 static const struct {
     const char *before[3];
     bool read;
@@ -79,12 +79,19 @@ static const struct {
     {{"REM", "ALL_REP EN"}, true, 16, 1, 0},
     {{"REM", "PAUSE ON", "ALL_REP EN"}, true, 16, 1, 0},
     {{"REM"}, true, 16, 0, 4},
+    {{"REM"}, true, 16, 0, 63},
     {{"REM"}, true, 16, 0, 1087},
 };
 
-static void make_table(size_t n)
+static void pass_ticks(uint32_t ticks)
 {
     uint8_t pulses[URQOLINA_PULSES_SIZE];
+    for (uint32_t k = 0; k < ticks; k++)
+        model_tick(start, URQOLINA_TABLE_SIZE, pulses, sizeof pulses);
+}
+
+static void make_table(size_t n)
+{
     memset(start, 0, sizeof start);
     model_fresh(start, URQOLINA_TABLE_SIZE);
     for (size_t k = 0; k < 3 && tables[n].before[k] != NULL; k++)
@@ -92,8 +99,7 @@ static void make_table(size_t n)
             stop("not accepted before: ", tables[n].before[k]);
     if (tables[n].read)
         set_out(tables[n].driving);
-    for (uint32_t k = 0; k < tables[n].ticks; k++)
-        model_tick(start, URQOLINA_TABLE_SIZE, pulses, sizeof pulses);
+    pass_ticks(tables[n].ticks);
     if (tables[n].damage != 0)
         start[tables[n].damage] = 1;
 }
@@ -108,11 +114,12 @@ static const char *const lines[] = {
 /* A line of every form that is taken in both modes. */
 static const char *const both_modes[] = {
     "SSTP0",   "ESTP0",   "ASSTP",  "AESTP", "PS?0", "FL?0",       "BL?0",       "SPD?0",    "SPDH?0", "SPDM?0", "SPDL?0",
-    "SETLS?0", "SETMT?0", "STS0?",  "LOC",   "REM",  "ALL_REP?",   "ERRF?",      "ERR?",     "ERRC",   "ERRC3",  "PAUSE?"};
+    "SETLS?0", "SETMT?0", "STS0?",  "LOC",   "REM",  "ALL_REP?",   "ERRF?",      "ERR?",     "ERRC",   "ERRC3",  "PAUSE?",
+    "BSY?"};
 
 /* Lines that no table takes. */
 static const char *const no_lines[] = {
-    "", "ABSBB+5", "ABS0", "SPDM0800000000000", "ALL_REP EM", "SETLS011111000", "ERRC9", "PAUSE OF", "xyz"};
+    "", "ABSBB+5", "ABS0", "SPDM0800000000000", "ALL_REP EM", "SETLS011111000", "ERRC9", "PAUSE OF", "BSY?0", "xyz"};
 
 #define COUNT(list) (sizeof list / sizeof list[0])
 
@@ -165,20 +172,26 @@ static void measure_tables(void)
             stop(accepted[k] ? "refused on no sound table: " : "accepted on no table: ", lines[k]);
 }
 
-/* A step of the tour: of what comes before it readings and lines are told apart by their first two bytes. */
-static void measure_step(const struct step *s)
+/* What comes before a step of the tour: readings, ticks and lines are told apart by their first two bytes. */
+static void send_before(const char *before)
 {
     char text[200];
-    memset(start, 0, sizeof start);
-    model_fresh(start, URQOLINA_TABLE_SIZE);
-    snprintf(text, sizeof text, "%s", s->before != NULL ? s->before : "");
+    snprintf(text, sizeof text, "%s", before);
     for (char *part = strtok(text, ";"); part != NULL; part = strtok(NULL, ";"))
         if (strncmp(part, "S ", 2) == 0)
             model_reading(start, URQOLINA_TABLE_SIZE, (uint32_t)strtoul(part + 2, NULL, 16), (uint32_t)strtoul(part + 4, NULL, 10));
+        else if (strncmp(part, "T ", 2) == 0)
+            pass_ticks((uint32_t)strtoul(part + 2, NULL, 10));
         else
             send_line(part);
-    if (s->damaged)
-        start[4] = 1;
+}
+
+static void measure_step(const struct step *s)
+{
+    memset(start, 0, sizeof start);
+    model_fresh(start, URQOLINA_TABLE_SIZE);
+    send_before(s->before != NULL ? s->before : "");
+    tour_damage(s, start);
     take_up(s->kind, s->line != NULL ? s->line : "", s->channel, s->contacts);
     call.table_size = (size_t)((int)URQOLINA_TABLE_SIZE + s->table);
     call.reply_size = (size_t)((int)URQOLINA_REPLY_SIZE + s->reply);

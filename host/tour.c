@@ -4,6 +4,8 @@
  */
 #include "tour.h"
 
+#include <string.h>
+
 #define NUMBER(n) (UINT32_C(1) << (n))
 
 const uint32_t tour_numbers[CALLS] = {
@@ -51,6 +53,18 @@ const struct step tour[] = {
     {.kind = COMMAND, .number = 0, .before = "S 0 0;REM;PAUSE ON;SCANP0;LOC", .line = "SSTP0"},
     {.kind = COMMAND, .number = 0, .before = "S 0 0;S 1 0;REM;SCANP1;PAUSE ON;SCANN0", .line = "AESTP"},
     {.kind = COMMAND, .number = 0, .before = "S 0 0;REM;PAUSE ON;SCANP0;ESTP0", .line = "SCANN0"},
+    /* the busy set: none in it; channels of either byte, started, held and released; what starts nothing; every end of a drive; LOC */
+    {.kind = COMMAND, .number = 0, .line = "BSY?"},
+    {.kind = COMMAND, .number = 0, .before = "S 0 0;REM;SCANP0", .line = "BSY?"},
+    {.kind = COMMAND, .number = 0, .before = "S 0 0;S 3 0;S F 0;REM;REL0+1;SCANP3;PAUSE ON;SCANNF", .line = "BSY?"},
+    {.kind = COMMAND, .number = 0, .before = "S 9 0;S E 0;REM;PAUSE ON;SCANN9;SCANPE;PAUSE OFF", .line = "BSY?"},
+    {.kind = COMMAND, .number = 0, .before = "S 0 0;REM;REL0+0;ABS0+0;SSTP0", .line = "BSY?"},
+    {.kind = COMMAND, .number = 0, .before = "S 0 0;S B 0;REM;REL0+1;SCANPB;T 2", .line = "BSY?"},
+    {.kind = COMMAND, .number = 0, .before = "S 0 0;REM;SETLS011110000;FL0+1;SCANP0;T 2", .line = "BSY?"},
+    {.kind = COMMAND, .number = 0, .before = "S 0 0;S 8 0;REM;SCANP0;SCANP8;S 8 1", .line = "BSY?"},
+    {.kind = COMMAND, .number = 0, .before = "S 0 0;S 1 0;REM;SCANP0;PAUSE ON;SCANN1;ESTP1;SSTP0", .line = "BSY?"},
+    {.kind = COMMAND, .number = 0, .before = "S 0 0;S 1 0;REM;SCANP0;PAUSE ON;SCANN1;ASSTP", .line = "BSY?"},
+    {.kind = COMMAND, .number = 0, .before = "S 2 0;REM;ALL_REP EN;SCANP2;LOC", .line = "BSY?"},
     /* no form: a byte that is none of it, no number, two signs, eleven digits, a sign where none may stand; and over 80 bytes */
     {.kind = COMMAND, .number = 1, .line = "ABS0+10z"},
     {.kind = COMMAND, .number = 1, .before = "REM", .line = "ABS0"},
@@ -66,6 +80,12 @@ const struct step tour[] = {
     {.kind = COMMAND, .number = 1, .before = "REM", .line = "PAUSE OF"},
     {.kind = COMMAND, .number = 1, .before = "REM", .line = "PAUSE OFFF"},
     {.kind = COMMAND, .number = 1, .before = "REM", .line = "PAUSE ?"},
+    /* of the busy set: a channel, a blank, no question mark, small letters */
+    {.kind = COMMAND, .number = 1, .line = "BSY?0"},
+    {.kind = COMMAND, .number = 1, .before = "REM", .line = "BSY? "},
+    {.kind = COMMAND, .number = 1, .before = "REM", .line = "BSY"},
+    {.kind = COMMAND, .number = 1, .before = "REM", .line = "BSY "},
+    {.kind = COMMAND, .number = 1, .before = "REM", .line = "bsy?"},
     /* a start, a setting and a selection of a driving channel, and of a held one, where what would not move it is busy too */
     {.kind = COMMAND, .number = 2, .before = "S 0 0;REM;SCANP0", .line = "SCANP0"},
     {.kind = COMMAND, .number = 2, .before = "S 0 0;REM;SCANP0", .line = "PS0+1"},
@@ -128,6 +148,14 @@ const struct step tour[] = {
     {.kind = COMMAND, .number = 5, .line = "REM", .table = -1},
     {.kind = COMMAND, .number = 5, .line = "REM", .reply = -1},
     {.kind = COMMAND, .number = 6, .line = "REM", .damaged = true},
+    /* a busy set that is not true: a channel too many, one too few, a held one too few, one for another, in either byte */
+    {.kind = COMMAND, .number = 6, .line = "BSY?", .wrong = 0x0001},
+    {.kind = COMMAND, .number = 6, .line = "xyz", .wrong = 0x8000},
+    {.kind = COMMAND, .number = 6, .before = "S 0 0;REM;SCANP0", .line = "BSY?", .wrong = 0x0001},
+    {.kind = COMMAND, .number = 6, .before = "S 0 0;REM;SCANP0", .line = "AESTP", .wrong = 0x0002},
+    {.kind = COMMAND, .number = 6, .before = "S 0 0;REM;SCANP0", .line = "STS0?", .wrong = 0x8001},
+    {.kind = COMMAND, .number = 6, .before = "S 8 0;REM;SCANP8", .line = "SSTP8", .wrong = 0x0101},
+    {.kind = COMMAND, .number = 6, .before = "S 0 0;REM;PAUSE ON;SCANP0", .line = "PAUSE OFF", .wrong = 0x0001},
 
     {.kind = READING, .number = 0, .channel = 15, .contacts = 7},
     /* a held drive: the switch of its direction ends it, and neither the other one nor HP does, either way */
@@ -135,18 +163,36 @@ const struct step tour[] = {
     {.kind = READING, .number = 0, .before = "S 0 0;REM;PAUSE ON;SCANP0", .channel = 0, .contacts = 6},
     {.kind = READING, .number = 0, .before = "S 0 0;REM;PAUSE ON;SCANN0", .channel = 0, .contacts = 2},
     {.kind = READING, .number = 0, .before = "S 0 0;REM;PAUSE ON;SCANN0", .channel = 0, .contacts = 5},
+    /* a drive that is ended, and one that goes on */
+    {.kind = READING, .number = 0, .before = "S 0 0;S 8 0;REM;SCANP0;SCANN8", .channel = 8, .contacts = 2},
     {.kind = READING, .number = 5, .table = 1},
     {.kind = READING, .number = 5, .channel = 16},
     {.kind = READING, .number = 5, .contacts = 8},
     {.kind = READING, .number = 6, .damaged = true},
+    {.kind = READING, .number = 6, .channel = 5, .wrong = 0x0001},
+    {.kind = READING, .number = 6, .before = "S F 0;REM;SCANPF", .channel = 15, .contacts = 1, .wrong = 0x8000},
 
     {.kind = TICK, .number = 0, .before = "S 0 0;REM;SCANP0"},
     {.kind = TICK, .number = 0, .before = "S 0 0;S 1 0;REM;SCANP1;PAUSE ON;SCANN0"},
     {.kind = TICK, .number = 0, .before = "S 0 0;REM;SPDM05000000;PAUSE ON;REL0+3;PAUSE OFF"},
+    /* the last pulses of a drive, at its target and at its limit, while others go on or are held */
+    {.kind = TICK, .number = 0, .before = "S 0 0;S 9 0;REM;REL0+1;SCANP9;T 1"},
+    {.kind = TICK, .number = 0, .before = "S 0 0;S F 0;REM;SETLSF11110000;BLF-1;SCANNF;T 1;PAUSE ON;SCANP0"},
     {.kind = TICK, .number = 5, .table = -1},
     {.kind = TICK, .number = 5, .pulses = -1},
     {.kind = TICK, .number = 5, .pulses = 1},
     {.kind = TICK, .number = 6, .damaged = true},
+    {.kind = TICK, .number = 6, .wrong = 0x0100},
+    {.kind = TICK, .number = 6, .before = "S 0 0;S 1 0;REM;SCANP0;SCANP1", .wrong = 0x0002},
 };
 
 const size_t tour_size = sizeof tour / sizeof tour[0];
+
+void tour_damage(const struct step *s, uint8_t *table)
+{
+    enum { BUSY = 4, HEAD = 64 };
+    if (s->damaged)
+        memcpy(table + HEAD, "\0\0\0\x80", 4);
+    table[BUSY] = (uint8_t)(table[BUSY] ^ s->wrong);
+    table[BUSY + 1] = (uint8_t)(table[BUSY + 1] ^ s->wrong >> 8);
+}

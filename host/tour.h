@@ -16,18 +16,22 @@ enum { FRESH, COMMAND, READING, TICK, CALLS };
 /* The numbers that each kind of call can give, number n as bit n. Another one is taken for a fault of the call. */
 extern const uint32_t tour_numbers[CALLS];
 
-/* A call that gives a number: from a fresh table, the readings and lines that come before it, and what it is lent. */
+/* A call that gives a number: from a fresh table, the readings, ticks and lines that come before it, and what it is lent. */
 struct step {
     int kind;
     uint32_t number;
-    const char *before; /* with ; between them; a reading is written as in a script, S x n; each is accepted */
+    const char *before; /* with ; between them; readings and ticks are written as in a script, S x n and T n; each is accepted */
     const char *line; /* of a command */
     uint32_t channel, contacts; /* of a reading */
     int table, reply, pulses; /* by how much the size of a buffer is off */
-    bool damaged; /* whether the table is not sound */
+    bool damaged; /* whether the table is not sound: channel 0 is at -2,147,483,648, where no motor can be */
+    uint32_t wrong; /* channels that the busy set has wrong, channel c as bit c; with one of them the table is not sound either */
 };
 
 extern const struct step tour[];
 extern const size_t tour_size;
+
+/* Makes a table not sound, where a step says so. */
+void tour_damage(const struct step *s, uint8_t *table);
 
 #endif
