@@ -3,3 +3,4 @@ pub mod WordLaws
 pub mod PartLaws
 pub mod Signed
 pub mod PutLaws
+pub mod SetLaws

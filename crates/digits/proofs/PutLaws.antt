@@ -7,7 +7,7 @@ use native.Mathlib.Nat.{suc-add, add-suc, add-zero, zero-add, add-assoc}
 use native.Mathlib.Numerals.{add-one, one-add}
 use native.Mathlib.Omega.{arith}
 use lib.ListN.{length, take, drop, getD, set, length-append, length-take, length-drop, take-append-drop}
-use lib.Seq.{drop-length, sets, sets-eq, take-suc, set-at, take-add, take-take, drop-drop, drop-append-le, take-at, drop-at}
+use lib.Seq.{drop-length, sets, sets-eq, take-suc, set-at, take-add, take-take, drop-drop, take-append-le, drop-append-le, take-at, drop-at}
 use Rattle.digits.specs.Bytes.{put, joined}
 
 -- nothing is put
@@ -84,3 +84,33 @@ lay-put (b ∷ bs) s at h =
     let n : length (b ++ joined bs) ≡ length b + length (joined bs) = length-append b (joined bs) in
     let l : length (put s at b) ≡ length s = put-length s at b (omega arith) in
     rw (lay-put bs (put s at b) (at + length b) (omega arith)) (put-after s b (joined bs) at (omega arith))
+
+-- What is written over what was written before is all that counts.
+pub put-over : (t x y : List ℕ) (a : ℕ) → length x ≡ length y → a + length x ≤ length t → put (put t a x) a y ≡ put t a y
+unfolding put
+put-over t x y a e h =
+    let front : length (take a t) ≡ a = rw length-take (omega arith) in
+    let rest = x ++ drop (a + length x) t in
+    rw (take-at (take a t) rest a front, ← drop-drop (length y) a (take a t ++ rest), drop-at (take a t) rest a front, drop-at x (drop (a + length x) t) (length y) e, e)
+
+-- Two writes that do not touch each other may change places.
+put-apart : (t x y : List ℕ) (a m : ℕ) → let b = a + length x + m in b + length y ≤ length t → put (put t a x) b y ≡ put (put t b y) a x
+unfolding put
+put-apart t x y a m l =
+    let n = a + length x in
+    let b = n + m in
+    let p = take a t ++ x in
+    let mid = take m (drop n t) in
+    let end = y ++ drop (b + length y) t in
+    let e : length p ≡ n = rw (length-append, length-take) (omega arith) in
+    let upper : take b (p ++ drop n t) ≡ p ++ mid = rw (take-add n m (p ++ drop n t), take-at p (drop n t) n e, drop-at p (drop n t) n e) in
+    let tail : drop (b + length y) (p ++ drop n t) ≡ drop (b + length y) t =
+    let far : b + length y ≡ n + (m + length y) = omega arith in
+    rw (far, ← drop-drop (m + length y) n (p ++ drop n t), drop-at p (drop n t) n e, drop-drop) in
+    let lower : take a (take b t ++ end) ≡ take a t = take-append-le a (take b t) end (rw length-take (omega arith)) ∙ take-take a b t (omega arith) in
+    let rest : drop n (take b t ++ end) ≡ mid ++ end =
+    rw (take-add n m t, append-assoc, drop-at (take n t) (mid ++ end) n (rw length-take (omega arith))) in
+    rw (← append-assoc (take a t) x (drop n t), upper, tail, lower, rest) (simp append-assoc)
+
+pub put-swap : (t x y : List ℕ) (a b : ℕ) → a + length x ≤ b → b + length y ≤ length t → put (put t a x) b y ≡ put (put t b y) a x
+put-swap t x y a b h l = let at : b ≡ a + length x + (b - (a + length x)) = omega arith in rw at (put-apart t x y a (b - (a + length x)) (omega arith))

@@ -1,9 +1,9 @@
 -- To compute words and places down to numbers and bytes, a statement says `unfolding computing-digits`: it opens every
 -- definition that is otherwise shut. It says nothing itself.
 use Rattle.digits.specs.Bytes.{part, put, joined, pieces, every, gather, allZero}
-use Rattle.digits.specs.Words.{word, wordBytes, withBit, withoutBit}
+use Rattle.digits.specs.Words.{word, wordBytes, withBit, withoutBit, bitsOf}
 use Rattle.digits.specs.Places.{placeOf, wordOf, countOf}
 
 unfoldable pub computing-digits : Unit {0}
-unfolding part put joined pieces every gather allZero word wordBytes withBit withoutBit placeOf wordOf countOf
+unfolding part put joined pieces every gather allZero word wordBytes withBit withoutBit bitsOf placeOf wordOf countOf
 computing-digits = tt

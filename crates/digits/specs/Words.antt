@@ -29,3 +29,12 @@ withBit k n = cond (isSet k n) n (n + 2 ^ k)
 -- the number with bit k clear
 unfoldable pub withoutBit : ℕ → ℕ → ℕ
 withoutBit k n = cond (isSet k n) (n - 2 ^ k) n
+
+-- the number with bit k set or clear, by a test
+abbrev pub marked : Bool → ℕ → ℕ → ℕ
+marked on k n = cond on (withBit k n) (withoutBit k n)
+
+-- a set of the numbers below k as one number: bit i is set where f holds of i
+unfoldable pub bitsOf : (ℕ → Bool) → ℕ → ℕ
+bitsOf f zero = 0
+bitsOf f (suc k) = cond (f 0) 1 0 + 2 * bitsOf (λ i. f (suc i)) k

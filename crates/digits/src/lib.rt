@@ -2,6 +2,7 @@
 // crates are written with. What they are is said in specs/.
 
 pub mod places;
+pub mod sets;
 pub mod words;
 
 ghost use mathlib.Core.Path.{_≡_};

@@ -11,7 +11,7 @@ use Rattle.record.specs.declared.Drive.{Drive}
 use Rattle.record.specs.declared.Motor.{Motor}
 use Rattle.record.specs.Record.{byteAt, longAt, wiringOf, motorOf}
 use Rattle.motor.specs.Switches.{blocked, room}
-use Rattle.motor.specs.Sound.{isSpeed, limitsInRange, wiringInRange, contactsRight, setupInRange, endFlagsInRange, settingsInRange}
+use Rattle.motor.specs.Sound.{isSpeed, limitsInRange, wiringInRange, contactsRight, setupInRange, endFlagsInRange, settingsInRange, busy, soundUnder}
 
 -- the speeds and the fields of one byte
 abbrev pub fieldsRight : Motor → Bool
@@ -46,6 +46,10 @@ abbrev pub drivingJudged : Bool → List ℕ → Bool
 drivingJudged paused b =
     eqb (longAt b 44) 1 && (wayAllowed paused (byteAt b 32) && (drivesRight (motorOf b) && fieldsRight (motorOf b)))
 
+-- a record that the busy set has, bytes 0 to 47
+abbrev pub listedJudged : Bool → List ℕ → Bool
+listedJudged paused b = not (eqb (byteAt b 32) 0) && drivingJudged paused b
+
 -- bytes 40 to 47 of a record without a drive: no target, the contacts, and zeros
 abbrev pub told : List ℕ → Bool
 told b = eqb (longAt b 40) 0 && (contactsRight (wiringOf b) && allZero (part b 45 3))
@@ -53,3 +57,7 @@ told b = eqb (longAt b 40) 0 && (contactsRight (wiringOf b) && allZero (part b 4
 -- a record without a drive, bytes 0 to 47
 abbrev pub standingJudged : List ℕ → Bool
 standingJudged b = eqb (word (part b 32 8)) 0 && (told b && (settingsInRange (motorOf b) && endFlagsInRange (motorOf b .ended)))
+
+-- a record is sound in a table, and what the busy set says of it is so
+abbrev pub soundListed : Bool → Bool → List ℕ → Bool
+soundListed paused listed b = soundUnder paused b && cond listed (busy (motorOf b)) (not (busy (motorOf b)))

@@ -38,8 +38,8 @@ ghost use Rattle.digits.specs.Places.{cw, isPosition};
 ghost use Rattle.record.specs.Record.{motorOf};
 ghost use Rattle.motor.specs.Switches.{switchOf, unread, active, blocked, rangeEnd, edge, room};
 ghost use Rattle.motor.specs.Sound.{isSpeed, limitsInRange, wiringInRange, setupInRange, settingsInRange, endFlagsInRange};
-ghost use Rattle.motor.specs.Sound.{busy, moving, soundUnder};
-ghost use Rattle.motor.specs.Judged.{fieldsRight, clearAhead, aimed, free, drivesRight, wayAllowed, drivingJudged, told, standingJudged};
+ghost use Rattle.motor.specs.Sound.{busy, moving};
+ghost use Rattle.motor.specs.Judged.{fieldsRight, clearAhead, aimed, free, drivesRight, wayAllowed, drivingJudged, listedJudged, told, standingJudged, soundListed};
 
 // The switch that a direction runs into, by its bit: 0 CW, 1 CCW.
 fn switch_of(going: u8) -> u8
@@ -405,28 +405,42 @@ fn tail_zero(b: &[u8]) -> bool
     }
 }
 
-// Whether 64 bytes are a sound record of a table. Most motors stand, and so have no drive; then nothing of one is judged.
-fn sound_bytes(paused: bool, b: &[u8]) -> bool
+// Whether a record that the busy set has is sound, its bytes from 48 on aside: it has a drive.
+fn listed_sound(paused: bool, b: &[u8]) -> bool
     requires { ⌜ length (now b) ≡ 64 ⌝ }
-    ensures { λ r. ⌜ r ≡ soundUnder paused (now (b .entry)) ⌝ }
+    ensures { λ r. ⌜ r ≡ listedJudged paused (now (b .entry)) ⌝ }
+{
+    if byte_at(b, 32) == 0 {
+        false
+    } else {
+        driving_sound(paused, b)
+    }
+}
+
+// Whether 64 bytes are a sound record of a table. What the busy set says of it is asked for, and not byte 32: where they differ, the
+// rules for the one or the other are not kept.
+fn sound_bytes(paused: bool, listed: bool, b: &[u8]) -> bool
+    requires { ⌜ length (now b) ≡ 64 ⌝ }
+    ensures { λ r. ⌜ r ≡ soundListed paused listed (now (b .entry)) ⌝ }
 {
     if tail_zero(b) {
-        if byte_at(b, 32) == 0 {
-            standing_sound(b)
+        if listed {
+            listed_sound(paused, b)
         } else {
-            driving_sound(paused, b)
+            standing_sound(b)
         }
     } else {
         false
     }
 }
 
-// Whether bytes are a sound record of a table, where pause is on or off: bytes of any number and any value are judged.
-pub fn sound_record(paused: bool, b: &[u8]) -> bool
-    ensures { λ r. ⌜ r ≡ soundUnder paused (now (b .entry)) ⌝ }
+// Whether bytes are a sound record of a table, where pause is on or off and the busy set has the record or not: bytes of any number
+// and any value are judged.
+pub fn sound_record(paused: bool, listed: bool, b: &[u8]) -> bool
+    ensures { λ r. ⌜ r ≡ soundListed paused listed (now (b .entry)) ⌝ }
 {
     if b.len() == 64 {
-        sound_bytes(paused, b)
+        sound_bytes(paused, listed, b)
     } else {
         false
     }

@@ -28,19 +28,20 @@ scanning =
 away : List ℕ
 away = withMotor freshTable 11 scanning
 
--- a motor is read where it was written, the neighbours and the head are as they were, and the table is as long
+-- a motor is read where it was written, the neighbours are as they were, the head but for the busy set, which has channel 11 alone, and
+-- the table is as long
 placed :
     (withMotor freshTable 11 freshMotor ≡ freshTable) × (motorAt away 11 ≡ scanning) × (motorAt away 10 ≡ freshMotor)
     × (motorAt away 12 ≡ freshMotor) × (part away 800 8 ≡ 1 ∷ 0 ∷ 0 ∷ 0 ∷ 0x20 ∷ 0x03 ∷ 0 ∷ 0 ∷ []) × (length away ≡ 1088)
-    × (part away 0 768 ≡ part freshTable 0 768) × (part away 832 256 ≡ part freshTable 832 256) × (soundTable away ≡ true)
-    × (withMotors away (λ m. freshMotor) ≡ freshTable) × (withMotors away (λ m. m) ≡ away)
+    × (part away 0 6 ≡ 0 ∷ 0 ∷ 0 ∷ 0 ∷ 0 ∷ 8 ∷ []) × (part away 6 762 ≡ part freshTable 6 762) × (part away 832 256 ≡ part freshTable 832 256)
+    × (soundTable away ≡ true) × (withMotors away (λ m. freshMotor) ≡ freshTable) × (withMotors away (λ m. m) ≡ away)
 unfolding computing-table away scanning
-placed = (refl, refl, refl, refl, refl, refl, refl, refl, refl, refl, refl)
+placed = (refl, refl, refl, refl, refl, refl, refl, refl, refl, refl, refl, refl)
 
--- the head's four fields stand at bytes 0 to 3, and are written there
+-- the head's fields stand at bytes 0 to 3, and 4 and 5, the low byte first, and are written there
 head :
-    (headOf (1 ∷ 2 ∷ 3 ∷ 4 ∷ []) ≡ record { mode = 1; reply = 2; errors = 3; pause = 4 })
-    × (withHead (0 ∷ 0 ∷ 0 ∷ 0 ∷ 9 ∷ []) (withPause (withErrors (withReply (withMode (headOf (0 ∷ 0 ∷ 0 ∷ 0 ∷ [])) 1) 1) 15) 1) ≡ 1 ∷ 1 ∷ 15 ∷ 1 ∷ 9 ∷ [])
+    (headOf (1 ∷ 2 ∷ 3 ∷ 4 ∷ 5 ∷ 6 ∷ []) ≡ record { mode = 1; reply = 2; errors = 3; pause = 4; busy = 0x0605 })
+    × (withHead (0 ∷ 0 ∷ 0 ∷ 0 ∷ 7 ∷ 8 ∷ 9 ∷ []) (withPause (withErrors (withReply (withMode (headOf (0 ∷ 0 ∷ 0 ∷ 0 ∷ 7 ∷ 8 ∷ [])) 1) 1) 15) 1) ≡ 1 ∷ 1 ∷ 15 ∷ 1 ∷ 7 ∷ 8 ∷ 9 ∷ [])
 unfolding computing-table
 head = (refl, refl)
 
@@ -49,8 +50,8 @@ head = (refl, refl)
 unsound :
     (map (λ t. soundTable t) ([] ∷ drop 1 freshTable ∷ (freshTable ++ (0 ∷ [])) ∷ replicate 1088 255 ∷ replicate 1088 0 ∷ [])
     ≡ false ∷ false ∷ false ∷ false ∷ false ∷ [])
-    × (map (λ at. soundTable (put freshTable at (1 ∷ []))) (0 ∷ 1 ∷ 2 ∷ 3 ∷ 4 ∷ 63 ∷ 108 ∷ 109 ∷ 127 ∷ 1068 ∷ 1069 ∷ 1087 ∷ [])
-    ≡ true ∷ true ∷ true ∷ true ∷ false ∷ false ∷ true ∷ false ∷ false ∷ true ∷ false ∷ false ∷ [])
+    × (map (λ at. soundTable (put freshTable at (1 ∷ []))) (0 ∷ 1 ∷ 2 ∷ 3 ∷ 4 ∷ 5 ∷ 6 ∷ 7 ∷ 63 ∷ 108 ∷ 109 ∷ 127 ∷ 1068 ∷ 1069 ∷ 1087 ∷ [])
+    ≡ true ∷ true ∷ true ∷ true ∷ false ∷ false ∷ false ∷ false ∷ false ∷ true ∷ false ∷ false ∷ true ∷ false ∷ false ∷ [])
     × (map (λ b. soundTable (put freshTable 0 b)) ((2 ∷ []) ∷ (1 ∷ 2 ∷ []) ∷ (1 ∷ 1 ∷ 15 ∷ []) ∷ (1 ∷ 1 ∷ 16 ∷ []) ∷ (0 ∷ 0 ∷ 0 ∷ 2 ∷ []) ∷ [])
     ≡ false ∷ false ∷ true ∷ false ∷ false ∷ [])
 unfolding computing-table
@@ -65,3 +66,13 @@ held-under-pause :
     × (map (λ way. soundTable (holding way 1)) (1 ∷ 2 ∷ 3 ∷ 4 ∷ 5 ∷ []) ≡ true ∷ true ∷ true ∷ true ∷ false ∷ [])
 unfolding computing-table holding away scanning
 held-under-pause = (refl, refl)
+
+-- 02 §6: "bit c for channel c, held drives included", and "a wrong set is 6": of a table with channel 11 scanning or held, and with
+-- channels 0 and 15 besides, only the set of its busy channels is taken, low byte first
+busy-sets :
+    (map (λ w. soundTable (put away 4 w)) ((0 ∷ 8 ∷ []) ∷ (0 ∷ 0 ∷ []) ∷ (8 ∷ 0 ∷ []) ∷ (0 ∷ 9 ∷ []) ∷ (1 ∷ 8 ∷ []) ∷ (0 ∷ 16 ∷ []) ∷ (255 ∷ 255 ∷ []) ∷ [])
+    ≡ true ∷ false ∷ false ∷ false ∷ false ∷ false ∷ false ∷ [])
+    × (map (λ w. soundTable (put (holding 3 1) 4 w)) ((0 ∷ 8 ∷ []) ∷ (0 ∷ 0 ∷ []) ∷ []) ≡ true ∷ false ∷ [])
+    × (headOf (withMotor (withMotor away 0 scanning) 15 scanning) .busy ≡ 0x8801) × (headOf (withMotor away 11 freshMotor) .busy ≡ 0)
+unfolding computing-table holding away scanning
+busy-sets = (refl, refl, refl, refl)

@@ -14,20 +14,21 @@ use Rattle.digits.proofs.PutLaws.{put-length}
 use Rattle.motor.specs.Sound.{heldRight}
 use Rattle.motor.proofs.SoundLaws.{and-l, and-r}
 use Rattle.table.specs.declared.head.Head.{Head}
-use Rattle.table.specs.Layout.{tableSize, headOf, headBytes, paused, headUsed, headRest, withHead, recordStart, recordAt, motorAt}
+use Rattle.table.specs.Layout.{tableSize, headOf, headBytes, paused, headUsed, headRest, withHead, withBusy, recordStart, recordAt, motorAt, busySet}
 use Rattle.table.specs.Sound.{headInRange, soundHead, soundTable}
 use Rattle.table.proofs.PieceLaws.{part-after}
-use Rattle.table.proofs.TableLaws.{sound-length, sound-record-at, sound-held-at, sound-head-of, sound-from}
+use Rattle.table.proofs.SealLaws.{same-set, set-word}
+use Rattle.table.proofs.TableLaws.{sound-length, sound-record-at, sound-held-at, sound-head-of, sound-set, sound-from}
 
--- Where the 64 bytes are the same, the head is, and it is sound alike.
-module _ (t u : List ℕ) (same : (i n : ℕ) → i + n ≤ 64 → part u i n ≡ part t i n) where
-  pub same-head : headOf u ≡ headOf t
+-- Where the bytes before the busy set are the same, the head is but for that set; where those after it are too, it is sound alike.
+module _ (t u : List ℕ) (same : (i n : ℕ) → i + n ≤ 4 → part u i n ≡ part t i n) where
+  pub same-head : headOf u ≡ withBusy (headOf t) (headOf u .busy)
   unfolding headOf
   same-head = rw (same 0 1 (omega arith), same 1 1 (omega arith), same 2 1 (omega arith), same 3 1 (omega arith))
 
-  pub same-sound : soundHead u ≡ soundHead t
-  unfolding soundHead
-  same-sound = rw (same-head, same headUsed headRest (omega arith))
+  pub same-sound : part u headUsed headRest ≡ part t headUsed headRest → soundHead u ≡ soundHead t
+  unfolding soundHead headInRange
+  same-sound rest = rw (same-head, rest)
 
 -- A head that is written is read back, and leaves every byte after its fields, the records among them.
 module _ (t : List ℕ) (h : Head) (whole : length t ≡ tableSize) where
@@ -37,7 +38,7 @@ module _ (t : List ℕ) (h : Head) (whole : length t ≡ tableSize) where
 
   pub head-back : headOf (withHead t h) ≡ h
   unfolding headOf withHead part put
-  head-back = rw (byte-word (h .mode), byte-word (h .reply), byte-word (h .errors), byte-word (h .pause))
+  head-back = rw (byte-word (h .mode), byte-word (h .reply), byte-word (h .errors), byte-word (h .pause), set-word (h .busy))
 
   pub head-after : (i n : ℕ) → headUsed ≤ i → part (withHead t h) i n ≡ part t i n
   unfolding withHead
@@ -50,21 +51,27 @@ module _ (t : List ℕ) (h : Head) (whole : length t ≡ tableSize) where
   unfolding motorAt
   head-motor c = rw (head-record c)
 
--- A head in range that is written into a sound table leaves it sound, where what is held is held under its pause.
+  pub head-set : busySet (withHead t h) ≡ busySet t
+  head-set = same-set t (withHead t h) (λ c l. rw (head-motor c))
+
+-- A head in range that is written into a sound table leaves it sound, where what is held is held under its pause, and its busy set is
+-- the table's.
 pub head-sound : (t : List ℕ) (h : Head) → soundTable t ≡ true → headInRange h ≡ true
-    → ((c : ℕ) → c ≤ 15 → heldRight (paused h) (motorAt t c) ≡ true) → soundTable (withHead t h) ≡ true
+    → ((c : ℕ) → c ≤ 15 → heldRight (paused h) (motorAt t c) ≡ true) → h .busy ≡ busySet t → soundTable (withHead t h) ≡ true
 unfolding soundHead
-head-sound t h s r k =
+head-sound t h s r k w =
     let e = sound-length t s in
     let zeros = and-r (headInRange (headOf t)) (allZero (part t headUsed headRest)) (sound-head-of t s) in
     sound-from (withHead t h) (head-length t h e)
     (rw (head-back t h e, r, head-after t h e headUsed headRest (omega arith)) zeros)
     (λ c l. rw (head-record t h e c) (sound-record-at t c s (omega arith)))
     (λ c l. rw (head-back t h e, head-motor t h e c) (k c (omega arith)))
+    (rw (head-back t h e, head-set t h e) w)
 
--- So it is of a head that leaves pause as it was.
-pub head-sound-on : (t : List ℕ) (h : Head) → soundTable t ≡ true → headInRange h ≡ true → h .pause ≡ headOf t .pause → soundTable (withHead t h) ≡ true
-head-sound-on t h s r e = head-sound t h s r (λ c l. rw e (sound-held-at t c s l))
+-- So it is of a head that leaves pause and the busy set as they were.
+pub head-sound-on : (t : List ℕ) (h : Head) → soundTable t ≡ true → headInRange h ≡ true → h .pause ≡ headOf t .pause → h .busy ≡ headOf t .busy
+    → soundTable (withHead t h) ≡ true
+head-sound-on t h s r e w = head-sound t h s r (λ c l. rw e (sound-held-at t c s l)) (w ∙ sound-set t s)
 
 -- The head of a sound table is in range.
 pub sound-range : (t : List ℕ) → soundTable t ≡ true → headInRange (headOf t) ≡ true

@@ -1,65 +1,71 @@
 -- What a write into the table keeps: the other fields and records, and its soundness. Assumes nothing.
-use mathlib.Core.Path.{_≡_, refl}
+use mathlib.Core.Path.{_≡_, refl, _∙_}
 use mathlib.Core.List.{List}
 use mathlib.Core.Bool.{Bool, true, false}
 use Prim.Native.Nat.{ℕ, zero, suc, _+_, _≤_, _<_}
 use native.Mathlib.Numerals.{add-one}
 use native.Mathlib.Omega.{arith}
 use lib.ListN.{length}
-use lib.Dec.{eqb, ltb}
-use borrow.Author.Tests.{eqb-true, eqb-false, ltb-true, ltb-false, not-true}
-use Rattle.digits.specs.Bytes.{AllBytes, part, put}
+use lib.Dec.{eqb}
+use borrow.Author.Tests.{eqb-true, eqb-false, not-true}
+use Rattle.digits.specs.Bytes.{AllBytes, part}
 use Rattle.digits.proofs.PartLaws.{part-bytes}
 use Rattle.record.specs.declared.Motor.{Motor}
 use Rattle.record.specs.Record.{recordOf}
 use Rattle.record.proofs.RoundTrip.{record-length}
 use Rattle.motor.specs.Sound.{soundMotor, soundRecord, heldRight}
 use Rattle.motor.proofs.RecordLaws.{record-sound, sound-written-read, sound-read-written}
-use Rattle.table.specs.Layout.{tableSize, headOf, paused, recordStart, recordAt, motorAt, withMotor, withMotors, freshTable}
+use Rattle.table.specs.Layout.{tableSize, headOf, paused, headUsed, headRest, recordStart, recordAt, motorAt, busySet, sealed, withRecord, withMotor, withMotors, freshTable}
 use Rattle.table.specs.Sound.{soundTable}
 use Rattle.table.specs.Computing.{computing-table}
-use Rattle.table.proofs.PieceLaws.{put-back, part-same, part-before, part-after}
+use Rattle.table.proofs.PieceLaws.{put-back}
+use Rattle.table.proofs.SealLaws.{placed-length, placed-record, placed-head, placed-other, sealed-length, sealed-before, sealed-after, sealed-motor, sealed-true, sealed-again}
 use Rattle.table.proofs.TableLaws.{motor-length, upTo, up-to-none, up-to-next, up-to-all, sound-length, sound-record-at, sound-motor-at, sound-held-at, sound-head-of, sound-from}
 use Rattle.table.proofs.HeadLaws.{same-head, same-sound}
 
--- A record that is written is read back, and leaves the head and the other records.
+-- A record that is written is read back, and leaves the other records and, but for the busy set, the head.
 module _ (t : List ℕ) (c : ℕ) (m : Motor) (whole : length t ≡ tableSize) (channel : c ≤ 15) where
+  placed-whole : length (withRecord t c (recordOf m)) ≡ tableSize
+  placed-whole = placed-length t c (recordOf m) whole channel (record-length m)
+
   pub written-record : recordAt (withMotor t c m) c ≡ recordOf m
   unfolding withMotor
-  written-record = part-same t (recordOf m) (recordStart c) 64 (record-length m) (omega arith)
+  written-record = sealed-after (withRecord t c (recordOf m)) placed-whole (recordStart c) 64 (omega arith) ∙ placed-record t c (recordOf m) whole channel (record-length m)
 
   pub written-motor : soundMotor m ≡ true → motorAt (withMotor t c m) c ≡ m
   unfolding motorAt
   written-motor s = rw written-record (sound-written-read m s)
 
-  pub head-kept : (i n : ℕ) → i + n ≤ 64 → part (withMotor t c m) i n ≡ part t i n
+  pub head-before : (i n : ℕ) → i + n ≤ 4 → part (withMotor t c m) i n ≡ part t i n
   unfolding withMotor
-  head-kept i n h = part-before t (recordOf m) (recordStart c) i n (omega arith) (omega arith)
+  head-before i n h = sealed-before (withRecord t c (recordOf m)) placed-whole i n h ∙ placed-head t c (recordOf m) whole channel (record-length m) i n (omega arith)
+
+  pub head-behind : (i n : ℕ) → headUsed ≤ i → i + n ≤ 64 → part (withMotor t c m) i n ≡ part t i n
+  unfolding withMotor
+  head-behind i n l h = sealed-after (withRecord t c (recordOf m)) placed-whole i n l ∙ placed-head t c (recordOf m) whole channel (record-length m) i n h
 
   pub record-kept : (d : ℕ) → (d ≡ c → ⊥) → recordAt (withMotor t c m) d ≡ recordAt t d
   unfolding withMotor
-  record-kept d ne = go (ltb d c) refl
-    where
-      go : (b : Bool) → ltb d c ≡ b → recordAt (put t (recordStart c) (recordOf m)) d ≡ recordAt t d
-      go true e = let l = ltb-true d c e in part-before t (recordOf m) (recordStart c) (recordStart d) 64 (omega arith) (omega arith)
-      go false e =
-          let l = ltb-false d c e in
-          let n = record-length m in
-          part-after t (recordOf m) (recordStart c) (recordStart d) 64 (omega arith) (omega arith)
+  record-kept d ne = sealed-after (withRecord t c (recordOf m)) placed-whole (recordStart d) 64 (omega arith) ∙ placed-other t c (recordOf m) whole channel (record-length m) d ne
 
   pub motor-kept : (d : ℕ) → (d ≡ c → ⊥) → motorAt (withMotor t c m) d ≡ motorAt t d
   unfolding motorAt
   motor-kept d ne = rw (record-kept d ne)
 
--- A sound record that is read and written back is the same bytes, and leaves the table as it is.
+  -- Its busy set is the table's.
+  pub written-set : headOf (withMotor t c m) .busy ≡ busySet (withMotor t c m)
+  unfolding withMotor
+  written-set = sealed-true (sealed (withRecord t c (recordOf m))) (sealed-length _ placed-whole) (sealed-again _ placed-whole)
+
+-- A sound record that is read and written back is the same bytes, and leaves a sealed table as it is.
 module _ (t : List ℕ) (c : ℕ) (sound : soundRecord (recordAt t c) ≡ true) (bytes : AllBytes t) where
   pub read-back : recordOf (motorAt t c) ≡ recordAt t c
   unfolding motorAt
   read-back = sound-read-written (recordAt t c) sound (part-bytes t (recordStart c) 64 bytes)
 
-  pub motor-back : length t ≡ tableSize → c ≤ 15 → withMotor t c (motorAt t c) ≡ t
+  pub motor-back : length t ≡ tableSize → c ≤ 15 → sealed t ≡ t → withMotor t c (motorAt t c) ≡ t
   unfolding withMotor
-  motor-back e h = rw read-back (put-back t (recordStart c) 64 (omega arith))
+  motor-back e h seal = rw (read-back, put-back t (recordStart c) 64 (omega arith)) seal
 
 -- A sound motor written into a sound table, held under pause alone, leaves it sound.
 pub motor-sound : (t : List ℕ) (c : ℕ) (m : Motor) → soundTable t ≡ true → c ≤ 15 → soundMotor m ≡ true
@@ -67,9 +73,10 @@ pub motor-sound : (t : List ℕ) (c : ℕ) (m : Motor) → soundTable t ≡ true
 motor-sound t c m s h sm k =
     let e = sound-length t s in
     sound-from (withMotor t c m) (motor-length t c m e h)
-    (rw (same-sound t (withMotor t c m) (head-kept t c m e h)) (sound-head-of t s))
+    (rw (same-sound t (withMotor t c m) (head-before t c m e h) (head-behind t c m e h headUsed headRest (omega arith) (omega arith))) (sound-head-of t s))
     (λ d l. go d l (eqb d c) refl)
-    (λ d l. rw (same-head t (withMotor t c m) (head-kept t c m e h)) (held d l (eqb d c) refl))
+    (λ d l. rw (same-head t (withMotor t c m) (head-before t c m e h)) (held d l (eqb d c) refl))
+    (written-set t c m e h)
   where
     held : (d : ℕ) → d < 16 → (b : Bool) → eqb d c ≡ b → heldRight (paused (headOf t)) (motorAt (withMotor t c m) d) ≡ true
     held d l true q = rw (eqb-true d c q, written-motor t c m (sound-length t s) h sm) k
@@ -79,6 +86,16 @@ motor-sound t c m s h sm k =
     go d l true q = rw (eqb-true d c q, written-record t c m (sound-length t s) h) (record-sound m sm)
     go d l false q = rw (record-kept t c m (sound-length t s) h d (eqb-false d c q)) (sound-record-at t d s (omega arith))
 
+-- A sound table that is sealed once more is sound.
+sealed-sound : (t : List ℕ) → soundTable t ≡ true → soundTable (sealed t) ≡ true
+sealed-sound t s =
+    let e = sound-length t s in
+    sound-from (sealed t) (sealed-length t e)
+    (rw (same-sound t (sealed t) (sealed-before t e) (sealed-after t e headUsed headRest (omega arith))) (sound-head-of t s))
+    (λ c l. rw (sealed-after t e (recordStart c) 64 (omega arith)) (sound-record-at t c s (omega arith)))
+    (λ c l. rw (same-head t (sealed t) (sealed-before t e), sealed-motor t e c) (sound-held-at t c s (omega arith)))
+    (sealed-true (sealed t) (sealed-length t e) (sealed-again t e))
+
 -- Sixteen motors changed in a way that keeps each of them sound, and holds none of them, leave the table sound.
 module _ (f : Motor → Motor) (keeps : (m : Motor) → soundMotor m ≡ true → soundMotor (f m) ≡ true) (frees : (m : Motor) → m .drive .held ≡ false → f m .drive .held ≡ false) where
   right : (paused : Bool) (m : Motor) → heldRight paused m ≡ true → heldRight paused (f m) ≡ true
@@ -86,12 +103,12 @@ module _ (f : Motor → Motor) (keeps : (m : Motor) → soundMotor m ≡ true �
   right false m e = rw (frees m (not-true _ e))
 
   up-to-sound : (t : List ℕ) → soundTable t ≡ true → (k : ℕ) → k ≤ 16 → soundTable (upTo f k t) ≡ true
-  up-to-sound t s zero h = rw (up-to-none f t) s
+  up-to-sound t s zero h = rw (up-to-none f t) (sealed-sound t s)
   up-to-sound t s (suc k) h =
       let e = sound-length t s in
       let u = upTo f k t in
       let so-far = up-to-sound t s k (omega arith) in
-      rw (← add-one k, ← up-to-next f k t e)
+      rw (← add-one k, ← up-to-next f k t e (omega arith))
       (motor-sound u k (f (motorAt u k)) so-far (omega arith) (keeps _ (sound-motor-at u k so-far (omega arith))) (right (paused (headOf u)) (motorAt u k) (sound-held-at u k so-far (omega arith))))
 
   pub motors-sound : (t : List ℕ) → soundTable t ≡ true → soundTable (withMotors t f) ≡ true

@@ -1,4 +1,5 @@
 pub mod PieceLaws
+pub mod SealLaws
 pub mod LoopLaws
 pub mod TableLaws
 pub mod HeadLaws

@@ -1,7 +1,7 @@
 -- What the loops over the head and over the records have done after k turns. Assumes nothing.
-use mathlib.Core.Path.{_≡_, refl, _∙_}
+use mathlib.Core.Path.{_≡_, refl, sym, _∙_}
 use mathlib.Core.List.{List, _++_}
-use mathlib.Core.Bool.{Bool, true, false, _&&_}
+use mathlib.Core.Bool.{Bool, true, false, _&&_, not, cond, false≢true}
 use Prim.Native.Nat.{ℕ, zero, suc, _+_, _*_, _-_, _≤_, _<_}
 use native.Mathlib.Nat.{zero-add, add-zero, add-suc}
 use native.Mathlib.Numerals.{add-one}
@@ -9,17 +9,21 @@ use native.Mathlib.Omega.{arith}
 use lib.ListN.{length, drop, replicate, length-append, length-replicate, replicate-append-replicate}
 use lib.Dec.{eqb}
 use lib.Seq.{drop-drop}
+use borrow.Author.Tests.{eqb-true, eqb-false, eq-eqb}
 use Rattle.digits.specs.Bytes.{part, put, pieces, every, gather, allZero}
-use Rattle.digits.specs.Words.{word, wordBytes}
+use Rattle.digits.specs.Words.{word, wordBytes, isSet}
 use Rattle.digits.proofs.PartLaws.{part-add, zero-append}
 use Rattle.digits.proofs.PutLaws.{put-after, put-none, put-whole}
 use Rattle.digits.proofs.WordLaws.{word-zero, zero-part}
+use Rattle.digits.proofs.SetLaws.{bits-unique}
 use Rattle.record.specs.Record.{recordOf, freshMotor}
 use Rattle.record.proofs.RoundTrip.{record-length}
-use Rattle.motor.specs.Sound.{soundUnder}
-use Rattle.motor.proofs.SoundLaws.{and-false}
-use Rattle.table.specs.Layout.{tableSize, recordAt, withMotor, freshTable}
-use Rattle.table.proofs.PieceLaws.{every-more, gather-length}
+use Rattle.motor.specs.Sound.{busy, soundUnder}
+use Rattle.motor.specs.Judged.{soundListed}
+use Rattle.motor.proofs.SoundLaws.{and-l, and-r, and-false, both-ways}
+use Rattle.table.specs.Layout.{tableSize, recordAt, records, motorAt, busySet, withRecord, freshTable}
+use Rattle.table.proofs.SealLaws.{set-at}
+use Rattle.table.proofs.PieceLaws.{every-each, each-every, gather-length}
 
 -- the bytes from 8 on are zero, up to the word of eight bytes with the number k
 unfoldable pub zeroTo : List ℕ → ℕ → Bool
@@ -63,22 +67,71 @@ zeroed-next t k e h =
     put-after t x (wordBytes 4 0) 0 (omega arith) in
     rw (more, ← replicate-append-replicate {A = ℕ} (4 * k) 4 0) (rw (zero-add, n) at step)
 
--- the first k records are sound, where pause is on or off
-unfoldable pub soundTo : Bool → List ℕ → ℕ → Bool
-soundTo paused t k = every (soundUnder paused) (pieces 64 k (drop 64 t))
+-- A channel is in a set where it is busy, or it is not in it and not busy.
+listed-busy : (a b : Bool) → cond a b (not b) ≡ true → a ≡ b
+listed-busy true b e = sym e
+listed-busy false true e = absurd (false≢true e)
+listed-busy false false e = refl
 
-pub sound-none : (paused : Bool) (t : List ℕ) → soundTo paused t 0 ≡ true
-unfolding soundTo every pieces
-sound-none paused t = refl
+busy-listed : (b : Bool) → cond b b (not b) ≡ true
+busy-listed true = refl
+busy-listed false = refl
 
-pub sound-next : (paused : Bool) (t : List ℕ) (k : ℕ) → soundTo paused t (k + 1) ≡ (soundTo paused t k && soundUnder paused (recordAt t k))
-unfolding soundTo part
-sound-next paused t k = rw (add-one k, every-more (soundUnder paused) 64 k (drop 64 t), drop-drop)
+-- the first k records are sound, where pause is on or off, and the set w has just those that are busy
+unfoldable pub rightTo : Bool → ℕ → List ℕ → ℕ → Bool
+rightTo paused w t zero = true
+rightTo paused w t (suc k) = rightTo paused w t k && soundListed paused (isSet k w) (recordAt t k)
 
--- Where one of the first k records is not sound, no more of them are.
-pub sound-fails : (paused : Bool) (t : List ℕ) (k n : ℕ) → soundTo paused t k ≡ false → soundTo paused t (k + n) ≡ false
-sound-fails paused t k zero e = rw (add-zero k) e
-sound-fails paused t k (suc n) e = rw (add-suc k n, ← add-one (k + n), sound-next paused t (k + n), sound-fails paused t k n e)
+module _ (paused : Bool) (w : ℕ) (t : List ℕ) where
+  pub right-none : rightTo paused w t 0 ≡ true
+  unfolding rightTo
+  right-none = refl
+
+  pub right-next : (k : ℕ) → rightTo paused w t (k + 1) ≡ (rightTo paused w t k && soundListed paused (isSet k w) (recordAt t k))
+  unfolding rightTo
+  right-next k = rw (add-one k)
+
+  -- Where one of the first k is not right, no more of them are.
+  pub right-fails : (k n : ℕ) → rightTo paused w t k ≡ false → rightTo paused w t (k + n) ≡ false
+  right-fails k zero e = rw (add-zero k) e
+  right-fails k (suc n) e = rw (add-suc k n, ← add-one (k + n), right-next (k + n), right-fails k n e)
+
+  -- Each of them, and all of them.
+  right-each : (k c : ℕ) → c < k → rightTo paused w t k ≡ true → soundListed paused (isSet c w) (recordAt t c) ≡ true
+  unfolding rightTo
+  right-each zero c h e = absurd (omega arith)
+  right-each (suc k) c h e = go (eqb c k) refl (λ l. right-each k c l (and-l (rightTo paused w t k) _ e))
+    where
+      go : (f : Bool) → eqb c k ≡ f → (c < k → soundListed paused (isSet c w) (recordAt t c) ≡ true) → soundListed paused (isSet c w) (recordAt t c) ≡ true
+      go true q before = rw (eqb-true c k q) (and-r (rightTo paused w t k) _ e)
+      go false q before = before (omega (arith, eqb-false c k q))
+
+  each-right : (k : ℕ) → ((c : ℕ) → c < k → soundListed paused (isSet c w) (recordAt t c) ≡ true) → rightTo paused w t k ≡ true
+  unfolding rightTo
+  each-right zero all = refl
+  each-right (suc k) all = rw (each-right k (λ c h. all c (omega arith)), all k (omega arith))
+
+  -- All sixteen are right where all records are sound and the set is that of the busy channels.
+  pub right-all : w < 65536 → rightTo paused w t 16 ≡ (every (soundUnder paused) (records t) && eqb w (busySet t))
+  unfolding part motorAt busySet
+  right-all below = both-ways _ _ there back
+    where
+      there : rightTo paused w t 16 ≡ true → (every (soundUnder paused) (records t) && eqb w (busySet t)) ≡ true
+      there e =
+          let at : (c : ℕ) → c < 16 → soundListed paused (isSet c w) (recordAt t c) ≡ true = λ c h. right-each 16 c h e in
+          let all : every (soundUnder paused) (records t) ≡ true =
+          each-every (soundUnder paused) 64 16 (drop 64 t) (λ c h. rw (drop-drop (64 * c) 64 t) (and-l (soundUnder paused (recordAt t c)) _ (at c h))) in
+          let set : w ≡ busySet t =
+          bits-unique (λ c. busy (motorAt t c)) 16 w below (λ c h. listed-busy (isSet c w) (busy (motorAt t c)) (and-r (soundUnder paused (recordAt t c)) _ (at c h))) in
+          rw all (eq-eqb w (busySet t) set)
+
+      back : (every (soundUnder paused) (records t) && eqb w (busySet t)) ≡ true → rightTo paused w t 16 ≡ true
+      back e =
+          let all : every (soundUnder paused) (records t) ≡ true = and-l (every (soundUnder paused) (records t)) _ e in
+          let set : w ≡ busySet t = eqb-true w (busySet t) (and-r (every (soundUnder paused) (records t)) _ e) in
+          let under : (c : ℕ) → c < 16 → soundUnder paused (recordAt t c) ≡ true =
+          λ c h. rw (drop-drop (64 * c) 64 t) at (every-each (soundUnder paused) 64 16 (drop 64 t) c all h) in
+          each-right 16 (λ c h. rw (under c h, set, set-at t c (omega arith)) (busy-listed (busy (motorAt t c))))
 
 -- the first k records made fresh
 unfoldable pub freshTo : List ℕ → ℕ → List ℕ
@@ -91,8 +144,8 @@ fresh-none t = put-none t 64
 fresh-size : (k : ℕ) → length (gather (λ c. recordOf freshMotor) k) ≡ 64 * k
 fresh-size k = gather-length (λ c. recordOf freshMotor) 64 k (λ c. record-length freshMotor)
 
-pub fresh-next : (t : List ℕ) (k : ℕ) → length t ≡ tableSize → k < 16 → withMotor (freshTo t k) k freshMotor ≡ freshTo t (k + 1)
-unfolding freshTo withMotor gather
+pub fresh-next : (t : List ℕ) (k : ℕ) → length t ≡ tableSize → k < 16 → withRecord (freshTo t k) k (recordOf freshMotor) ≡ freshTo t (k + 1)
+unfolding freshTo gather
 fresh-next t k e h =
     let n = fresh-size k in
     rw (add-one k, ← n) (put-after t (gather (λ c. recordOf freshMotor) k) (recordOf freshMotor) 64 (omega arith))

@@ -1,3 +1,4 @@
 pub mod Layout
+pub mod Marking
 pub mod Sound
 pub mod Computing

@@ -8,7 +8,7 @@ use lib.Dec.{eqb, leb}
 use Rattle.digits.specs.Bytes.{part, every, allZero}
 use Rattle.motor.specs.Sound.{soundUnder}
 use Rattle.table.specs.declared.head.Head.{Head}
-use Rattle.table.specs.Layout.{tableSize, headOf, paused, headUsed, headRest, records}
+use Rattle.table.specs.Layout.{tableSize, headOf, paused, headUsed, headRest, busySet, records}
 
 -- "mode (0 local, 1 remote)", "all-reply (0 off, 1 on)", "error flags 0..15"; 02 §3: "head byte 3 is 1, else 0"
 unfoldable pub headInRange : Head → Bool
@@ -18,6 +18,8 @@ headInRange h = leb (h .mode) 1 && leb (h .reply) 1 && leb (h .errors) 15 && leb
 unfoldable pub soundHead : List ℕ → Bool
 soundHead t = headInRange (headOf t) && allZero (part t headUsed headRest)
 
--- "A table is *sound* when ..": its length, its head and all of its records; 02 §3: "a held record is sound only under pause"
+-- "A table is *sound* when ..": its length, its head and all of its records; 02 §3: "a held record is sound only under pause"; 02 §6:
+-- "Soundness asks that it is true", the busy set
 unfoldable pub soundTable : List ℕ → Bool
-soundTable t = eqb (length t) tableSize && soundHead t && every (soundUnder (paused (headOf t))) (records t)
+soundTable t =
+    eqb (length t) tableSize && soundHead t && every (soundUnder (paused (headOf t))) (records t) && eqb (headOf t .busy) (busySet t)

@@ -1,22 +1,24 @@
-// The head of the table, its first 64 bytes, by value: the mode, all-reply, the error flags and pause; the rest is zero. Whoever
-// changes one field reads the head, sets the field, and writes the head back.
+// The head of the table, its first 64 bytes, by value: the mode, all-reply, the error flags, pause and the busy set; the rest is zero.
+// Whoever changes one field reads the head, sets the field, and writes the head back.
 
 use digits::words::byte_at;
-use digits::words::long_at;
 use digits::words::put_long;
+use digits::words::short_at;
 use digits::words::wide_at;
 ghost use mathlib.Core.Path.{_≡_};
+ghost use mathlib.Core.List.{[], _∷_};
 ghost use lib.ListN.{length, replicate};
 ghost use Rattle.digits.specs.Bytes.{part, put, allZero};
-ghost use Rattle.table.specs.Layout.{tableSize, headUsed, headRest, headOf, paused, withHead, withMode, withReply, withErrors, withPause};
+ghost use Rattle.table.specs.Layout.{tableSize, headUsed, headRest, headOf, setBytes, paused, withHead, withMode, withReply, withErrors, withPause};
 ghost use Rattle.table.specs.Sound.{headInRange, soundHead};
 
-// The mode: 0 local, 1 remote. All-reply: 0 off, 1 on. The error flags: 0 to 15. Pause: 0 off, 1 on.
+// The mode: 0 local, 1 remote. All-reply: 0 off, 1 on. The error flags: 0 to 15. Pause: 0 off, 1 on. The busy set: bit c for channel c.
 pub struct Head {
     pub mode: u8,
     pub reply: u8,
     pub errors: u8,
     pub pause: u8,
+    pub busy: u16,
 }
 
 // The head that a table holds.
@@ -29,7 +31,28 @@ pub fn read_head(t: &[u8]) -> Head
         reply: byte_at(t, 1),
         errors: byte_at(t, 2),
         pause: byte_at(t, 3),
+        busy: short_at(t, 4),
     }
+}
+
+// Writes the busy set alone.
+pub fn write_busy(t: &mut [u8], set: u16)
+    requires { ⌜ length (now t) ≡ tableSize ⌝ }
+    ensures { λ _. ⌜ now (t .exit) ≡ put (now (t .entry)) 4 (setBytes set) ⌝ }
+{
+    t[4] = (set % 256) as u8;
+    t[5] = (set / 256) as u8;
+}
+
+// Writes the fields of one byte.
+fn write_settings(t: &mut [u8], h: Head)
+    requires { ⌜ length (now t) ≡ tableSize ⌝ }
+    ensures { λ _. ⌜ now (t .exit) ≡ put (now (t .entry)) 0 (h .mode ∷ h .reply ∷ h .errors ∷ h .pause ∷ []) ⌝ }
+{
+    t[0] = h.mode;
+    t[1] = h.reply;
+    t[2] = h.errors;
+    t[3] = h.pause;
 }
 
 // Writes a head; every byte that it has no field for stays as it is.
@@ -37,10 +60,8 @@ pub fn write_head(t: &mut [u8], h: Head)
     requires { ⌜ length (now t) ≡ tableSize ⌝ }
     ensures { λ _. ⌜ now (t .exit) ≡ withHead (now (t .entry)) h ⌝ }
 {
-    t[0] = h.mode;
-    t[1] = h.reply;
-    t[2] = h.errors;
-    t[3] = h.pause;
+    write_settings(t, h);
+    write_busy(t, h.busy);
 }
 
 // Whether pause is on, so that what is started is held.
@@ -90,7 +111,7 @@ fn head_in_range(h: Head) -> bool
     (h.mode <= 1) & (h.reply <= 1) & (h.errors <= 15) & (h.pause <= 1)
 }
 
-// Whether the bytes of the head that no field has, 4 to 63, are zero: a word of four bytes, and then words of eight.
+// Whether the bytes of the head that no field has, 6 to 63, are zero: words of eight bytes from 8 on, and the two before them.
 fn head_zero(t: &[u8]) -> bool
     requires { ⌜ length (now t) ≡ tableSize ⌝ }
     ensures { λ r. ⌜ r ≡ allZero (part (now (t .entry)) headUsed headRest) ⌝ }
@@ -103,7 +124,7 @@ fn head_zero(t: &[u8]) -> bool
             return false;
         }
     }
-    long_at(t, 4) == 0
+    short_at(t, 6) == 0
 }
 
 // Whether a head is sound.

@@ -4,9 +4,12 @@
 pub mod head;
 
 use digits::places::ORIGIN;
+use digits::sets::has;
+use digits::sets::mark;
 use head::is_paused;
 use head::read_head;
 use head::sound_head;
+use head::write_busy;
 use head::zero_head;
 use motor::sound_record;
 use record::Limits;
@@ -22,7 +25,7 @@ use record::write_drive;
 use record::write_motor;
 use record::write_progress;
 ghost use mathlib.Core.Path.{_≡_};
-ghost use mathlib.Core.Bool.{true};
+ghost use mathlib.Core.Bool.{true, _&&_};
 ghost use Prim.Native.Nat.{_≤_};
 ghost use lib.Dec.{eqb};
 ghost use lib.ListN.{length};
@@ -30,7 +33,9 @@ ghost use Rattle.digits.specs.Bytes.{put, every, gather};
 ghost use Rattle.record.specs.Record.{recordOf, freshMotor};
 ghost use Rattle.record.specs.Progress.{flagsAndDrive, progressed};
 ghost use Rattle.motor.specs.Sound.{moving, soundRecord, soundUnder};
-ghost use Rattle.table.specs.Layout.{tableSize, recordStart, recordAt, records, motorAt, withMotor, freshTable};
+ghost use Rattle.motor.specs.Judged.{soundListed};
+ghost use Rattle.table.specs.Layout.{tableSize, recordStart, recordAt, records, motorAt, busySet, sealed, withRecord, withMotor, freshTable};
+ghost use Rattle.table.specs.Marking.{markedAt};
 ghost use Rattle.table.specs.Sound.{soundTable};
 
 // Where the record of a channel starts.
@@ -72,19 +77,38 @@ pub fn is_moving_at(t: &[u8], c: u8) -> bool
 }
 
 // Writes a channel's record anew; every other byte stays as it is.
-pub fn put_motor(t: &mut [u8], c: u8, m: Motor)
+fn write_record(t: &mut [u8], c: u8, m: Motor)
     requires { ⌜ (length (now t) ≡ tableSize) × (c ≤ 15) ⌝ }
-    ensures { λ _. ⌜ now (t .exit) ≡ withMotor (now (t .entry)) c m ⌝ }
+    ensures { λ _. ⌜ now (t .exit) ≡ withRecord (now (t .entry)) c (recordOf m) ⌝ }
 {
     let start = record_start(c);
     let end = start + 64;
     write_motor(&mut t[start..end], m)
 }
 
+// Puts a channel whose record was written into the busy set, or takes it out, as the record tells; every other byte stays as it is.
+pub fn mark_at(t: &mut [u8], c: u8)
+    requires { ⌜ (length (now t) ≡ tableSize) × (c ≤ 15) ⌝ }
+    ensures { λ _. ⌜ now (t .exit) ≡ markedAt (now (t .entry)) c ⌝ }
+{
+    let h = read_head(t);
+    let stands = is_standing_at(t, c);
+    write_busy(t, mark(!stands, c, h.busy));
+}
+
+// Writes a channel's record anew and keeps the busy set; every other byte stays as it is.
+pub fn put_motor(t: &mut [u8], c: u8, m: Motor)
+    requires { ⌜ (length (now t) ≡ tableSize) × (c ≤ 15) × (sealed (now t) ≡ now t) ⌝ }
+    ensures { λ _. ⌜ now (t .exit) ≡ withMotor (now (t .entry)) c m ⌝ }
+{
+    write_record(t, c, m);
+    mark_at(t, c);
+}
+
 // Writes the end flags and the drive of a channel's record, given the motor that has them; every other byte stays as it is.
 pub fn put_drive(t: &mut [u8], c: u8, m: Motor)
     requires { ⌜ (length (now t) ≡ tableSize) × (c ≤ 15) ⌝ }
-    ensures { λ _. ⌜ now (t .exit) ≡ put (now (t .entry)) (recordStart c) (put (recordAt (now (t .entry)) c) 31 (flagsAndDrive (m .ended) (m .drive))) ⌝ }
+    ensures { λ _. ⌜ now (t .exit) ≡ withRecord (now (t .entry)) c (put (recordAt (now (t .entry)) c) 31 (flagsAndDrive (m .ended) (m .drive))) ⌝ }
 {
     let start = record_start(c);
     let end = start + 64;
@@ -95,32 +119,32 @@ pub fn put_drive(t: &mut [u8], c: u8, m: Motor)
 // Writes what a tick changes in a channel's record, given the motor after it; every other byte stays as it is.
 pub fn put_progress(t: &mut [u8], c: u8, m: Motor)
     requires { ⌜ (length (now t) ≡ tableSize) × (c ≤ 15) ⌝ }
-    ensures { λ _. ⌜ now (t .exit) ≡ put (now (t .entry)) (recordStart c) (progressed (recordAt (now (t .entry)) c) m) ⌝ }
+    ensures { λ _. ⌜ now (t .exit) ≡ withRecord (now (t .entry)) c (progressed (recordAt (now (t .entry)) c) m) ⌝ }
 {
     let start = record_start(c);
     let end = start + 64;
     write_progress(&mut t[start..end], m)
 }
 
-// Whether the record of a channel is sound, where pause is on or off.
-fn sound_at(paused: bool, t: &[u8], c: u8) -> bool
+// Whether the record of a channel is sound, where pause is on or off, and the busy set has the channel or not.
+fn sound_at(paused: bool, listed: bool, t: &[u8], c: u8) -> bool
     requires { ⌜ (length (now t) ≡ tableSize) × (c ≤ 15) ⌝ }
-    ensures { λ r. ⌜ r ≡ soundUnder paused (recordAt (now (t .entry)) c) ⌝ }
+    ensures { λ r. ⌜ r ≡ soundListed paused listed (recordAt (now (t .entry)) c) ⌝ }
 {
     let start = record_start(c);
     let end = start + 64;
-    sound_record(paused, &t[start..end])
+    sound_record(paused, listed, &t[start..end])
 }
 
-// How many records are sound, from the first on up to one that is not: 16 where all are. The count is handed back, and not a
-// verdict, because the compiler then has nothing to make ready at every test that may fail.
-fn sound_count(paused: bool, t: &[u8]) -> u8
+// How many records are sound, and in the busy set where they are busy, from the first on up to one that is not: 16 where all are. The
+// count is handed back, and not a verdict, because the compiler then has nothing to make ready at every test that may fail.
+fn sound_count(paused: bool, set: u16, t: &[u8]) -> u8
     requires { ⌜ length (now t) ≡ tableSize ⌝ }
-    ensures { λ r. ⌜ eqb r 16 ≡ every (soundUnder paused) (records (now (t .entry))) ⌝ }
+    ensures { λ r. ⌜ eqb r 16 ≡ (every (soundUnder paused) (records (now (t .entry))) && eqb set (busySet (now (t .entry)))) ⌝ }
 {
     let mut judged: u8 = 0;
     while judged < 16 {
-        if sound_at(paused, t, judged) {
+        if sound_at(paused, has(set, judged), t, judged) {
             judged += 1;
         } else {
             return judged;
@@ -135,7 +159,8 @@ fn sound_whole(t: &[u8]) -> bool
     ensures { λ r. ⌜ r ≡ soundTable (now (t .entry)) ⌝ }
 {
     if sound_head(t) {
-        sound_count(is_paused(read_head(t)), t) == 16
+        let h = read_head(t);
+        sound_count(is_paused(h), h.busy, t) == 16
     } else {
         false
     }
@@ -193,7 +218,7 @@ fn fresh_records(t: &mut [u8])
     let m = fresh_motor();
     let mut c: u8 = 0;
     while c < 16 {
-        put_motor(t, c, m);
+        write_record(t, c, m);
         c += 1;
     }
 }

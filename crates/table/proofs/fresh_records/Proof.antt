@@ -22,8 +22,8 @@ fresh-motor-requires c κs = search needs
 loop-holds : tie.Need-loop-holds Inv-loop μ-loop
 loop-holds c = (search needs, search needs, sym (fresh-none (c .before .before .args .t .now)))
 
-put-motor-requires : tie.Need-put-motor-requires Inv-loop μ-loop
-put-motor-requires c κs = search needs
+write-record-requires : tie.Need-write-record-requires Inv-loop μ-loop
+write-record-requires c κs = search needs
 
 add-c : tie.Need-add-c Inv-loop μ-loop
 add-c c = omega arith
@@ -35,7 +35,7 @@ loop-again : tie.Need-loop-again Inv-loop μ-loop
 loop-again c =
     let l = c .before .before .before .before .before in
     let t₀ = l .before .before .before .args .t .now in
-    (omega arith, search needs, rw (c .before .before .put-motor .ensures, l .before .fresh-motor .ensures, l .loop .inv .2) (fresh-next t₀ (l .loop .c) (search needs) (omega arith)))
+    (omega arith, search needs, rw (c .before .before .write-record .ensures, l .before .fresh-motor .ensures, l .loop .inv .2) (fresh-next t₀ (l .loop .c) (search needs) (omega arith)))
 
 same-length : tie.Need-same-length Inv-loop μ-loop
 same-length c = search needs
@@ -52,7 +52,7 @@ fresh-records-spec =
     μ-loop
     fresh-motor-requires
     loop-holds
-    put-motor-requires
+    write-record-requires
     add-c
     loop-less
     loop-again

@@ -1,30 +1,17 @@
--- `table::put_motor` meets its contract: the record that was lent is written anew, and is back in its place. Assumes nothing.
-use denote.Ref.{now}
+-- `table::put_motor` meets its contract: the record is written, and its channel marked in the busy set. Assumes nothing.
 use borrow.Author.Needs.{needs}
 use Rattle.record.specs.Record.{recordOf}
 use Rattle.record.proofs.RoundTrip.{record-length}
-use Rattle.table.specs.Layout.{recordStart, withMotor}
-use Rattle.table.proofs.PieceLaws.{put-lent}
+use Rattle.table.specs.Layout.{withMotor}
+use Rattle.table.proofs.SealLaws.{marked-sealed}
 use Rattle.table.proofs.put_motor.Statement.{statement}
 use Rattle.table.proofs.put_motor.Tie as tie
 
-record-start-requires : tie.Need-record-start-requires
-record-start-requires c κs = search needs
+write-record-requires : tie.Need-write-record-requires
+write-record-requires c κs = search needs
 
-add-end : tie.Need-add-end
-add-end c = search needs
-
-sub-write-motor : tie.Need-sub-write-motor
-sub-write-motor c = search needs
-
-part-write-motor-start : tie.Need-part-write-motor-start
-part-write-motor-start c = search needs
-
-part-write-motor-end : tie.Need-part-write-motor-end
-part-write-motor-end c = search needs
-
-write-motor-requires : tie.Need-write-motor-requires
-write-motor-requires c κs = search needs
+mark-at-requires : tie.Need-mark-at-requires
+mark-at-requires c κs = search needs
 
 same-length : tie.Need-same-length
 same-length c = search needs
@@ -32,19 +19,10 @@ same-length c = search needs
 returns : tie.Need-returns
 unfolding withMotor
 returns c =
-    let a = c .before .before .before .before .before .before .args in
-    rw (c .before .before .write-motor .ensures, c .before .before .before .before .record-start .ensures)
-    (put-lent (now (a .t)) (recordOf (a .m)) (recordStart (a .c)) 64 (record-length (a .m)))
+    let w = c .before .before .before .before .before .before in
+    let a = w .before .before .before in
+    rw (c .before .before .mark-at .ensures, w .write-record .ensures)
+    (marked-sealed (a .args .t .now) (a .args .c) (recordOf (a .args .m)) (a .pre .0) (a .pre .1) (record-length (a .args .m)) (a .pre .2))
 
 pub put-motor-spec : {M : Type 1} → statement M
-put-motor-spec =
-    tie.close
-    (tie.spec
-    record-start-requires
-    add-end
-    sub-write-motor
-    part-write-motor-start
-    part-write-motor-end
-    write-motor-requires
-    same-length
-    returns)
+put-motor-spec = tie.close (tie.spec write-record-requires mark-at-requires same-length returns)

@@ -16,9 +16,14 @@ byte-at-requires-3 c κs = search needs
 byte-at-requires-4 : tie.Need-byte-at-requires-4
 byte-at-requires-4 c κs = search needs
 
+short-at-requires : tie.Need-short-at-requires
+short-at-requires c κs = search needs
+
 returns : tie.Need-returns
 unfolding headOf
-returns c = rw (c .byte-at4 .ensures, c .before .byte-at3 .ensures, c .before .before .byte-at2 .ensures, c .before .before .before .byte-at .ensures)
+returns c =
+    let b = c .before in
+    rw (c .short-at .ensures, b .byte-at4 .ensures, b .before .byte-at3 .ensures, b .before .before .byte-at2 .ensures, b .before .before .before .byte-at .ensures)
 
 pub read-head-spec : {M : Type 1} → statement M
-read-head-spec = tie.close (tie.spec byte-at-requires byte-at-requires-2 byte-at-requires-3 byte-at-requires-4 returns)
+read-head-spec = tie.close (tie.spec byte-at-requires byte-at-requires-2 byte-at-requires-3 byte-at-requires-4 short-at-requires returns)

@@ -1,30 +1,29 @@
 -- `table::head::write_head` meets its contract. Assumes nothing.
+use mathlib.Core.List.{[], _∷_}
 use borrow.Author.Needs.{needs}
 use native.Mathlib.Omega.{arith}
-use Rattle.digits.proofs.PutLaws.{stores-put}
-use Rattle.table.specs.Layout.{headBytes, withHead}
+use Rattle.digits.proofs.PutLaws.{put-after}
+use Rattle.table.specs.Layout.{setBytes, withHead}
 use Rattle.table.proofs.head.write_head.Statement.{statement}
 use Rattle.table.proofs.head.write_head.Tie as tie
 
-slice-write-t : tie.Need-slice-write-t
-slice-write-t c = search needs
+write-settings-requires : tie.Need-write-settings-requires
+write-settings-requires c κs = search needs
 
-slice-write-t-2 : tie.Need-slice-write-t-2
-slice-write-t-2 c = search needs
-
-slice-write-t-3 : tie.Need-slice-write-t-3
-slice-write-t-3 c = search needs
-
-slice-write-t-4 : tie.Need-slice-write-t-4
-slice-write-t-4 c = search needs
+write-busy-requires : tie.Need-write-busy-requires
+write-busy-requires c κs = search needs
 
 same-length : tie.Need-same-length
 same-length c = search needs
 
 returns : tie.Need-returns
 unfolding withHead
-returns c = stores-put (headBytes (c .args .h)) (c .args .t .now) 0 (omega arith)
+returns c =
+    let s = c .before .before .before .before .before .before in
+    let a = s .before .before .before .args in
+    let h = a .h in
+    rw (c .before .before .write-busy .ensures, s .write-settings .ensures)
+    (put-after (a .t .now) (h .mode ∷ h .reply ∷ h .errors ∷ h .pause ∷ []) (setBytes (h .busy)) 0 (omega arith))
 
 pub write-head-spec : {M : Type 1} → statement M
-write-head-spec =
-    tie.close (tie.spec slice-write-t slice-write-t-2 slice-write-t-3 slice-write-t-4 same-length returns)
+write-head-spec = tie.close (tie.spec write-settings-requires write-busy-requires same-length returns)

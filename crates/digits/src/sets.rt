@@ -1,0 +1,22 @@
+// A set of channels as a number of sixteen bits: bit k tells whether channel k is in it.
+
+ghost use mathlib.Core.Path.{_≡_};
+ghost use Prim.Native.Nat.{_≤_};
+ghost use Rattle.digits.specs.Words.{isSet, marked};
+
+// Whether a channel is in a set.
+pub fn has(set: u16, k: u8) -> bool
+    requires { ⌜ k ≤ 15 ⌝ }
+    ensures { λ r. ⌜ r ≡ isSet k set ⌝ }
+{
+    (set >> k) % 2 == 1
+}
+
+// The set with a channel in it or not, by a test, and the others as they were.
+pub fn mark(on: bool, k: u8, set: u16) -> u16
+    requires { ⌜ k ≤ 15 ⌝ }
+    ensures { λ r. ⌜ r ≡ marked on k set ⌝ }
+{
+    let own: u16 = 1 << k;
+    if on { set | own } else { set - (set & own) }
+}
