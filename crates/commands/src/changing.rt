@@ -1,6 +1,7 @@
 // What an accepted order changes in the table.
 
 use crate::flags::clear_flag;
+use digits::sets::has;
 use drive::change_speed;
 use drive::end_drive;
 use drive::release;
@@ -20,7 +21,7 @@ use table::head::with_mode;
 use table::head::with_pause;
 use table::head::with_reply;
 use table::head::write_head;
-use table::is_standing_at;
+use table::mark_at;
 use table::motor_at;
 use table::put_drive;
 use table::put_motor;
@@ -28,18 +29,19 @@ ghost use mathlib.Core.Path.{_≡_};
 ghost use mathlib.Core.Bool.{true};
 ghost use Prim.Native.Nat.{_≤_};
 ghost use lib.ListN.{length};
-ghost use Rattle.motor.specs.Sound.{isSpeed, soundRecord};
+ghost use Rattle.digits.specs.Words.{isSet};
+ghost use Rattle.motor.specs.Sound.{isSpeed, busy, soundRecord};
 ghost use Rattle.drive.specs.Drives.{started, released, stopped, speedChanged};
 ghost use Rattle.line.specs.Made.{orderMade};
 ghost use Rattle.orders.specs.Values.{startInRange, settingInRange, headValueInRange, valueInRange};
 ghost use Rattle.orders.specs.Settings.{courseOf, withSetting};
-ghost use Rattle.table.specs.Layout.{tableSize, headOf, paused, withHead, recordAt, motorAt, withMotor, withMotors};
+ghost use Rattle.table.specs.Layout.{tableSize, headOf, paused, withHead, recordAt, motorAt, sealed, withMotor, withMotors};
 ghost use Rattle.table.specs.Sound.{soundTable};
 ghost use Rattle.commands.specs.Changing.{headChanged, releases, motorsFreed, changed};
 
 // Starts a channel, or holds it where pause is on.
 fn make_start(t: &mut [u8], x: u8, s: Start)
-    requires { ⌜ (length (now t) ≡ tableSize) × (x ≤ 15) × (startInRange s ≡ true) ⌝ }
+    requires { ⌜ (length (now t) ≡ tableSize) × (x ≤ 15) × (startInRange s ≡ true) × (sealed (now t) ≡ now t) ⌝ }
     ensures { λ _. ⌜ now (t .exit) ≡ withMotor (now (t .entry)) x (started (paused (headOf (now (t .entry)))) (motorAt (now (t .entry)) x) (courseOf (motorAt (now (t .entry)) x) s)) ⌝ }
 {
     let h = read_head(t);
@@ -47,15 +49,26 @@ fn make_start(t: &mut [u8], x: u8, s: Start)
     put_motor(t, x, start(is_paused(h), m, course_of(m, s)));
 }
 
-// Stops a channel; the record of a stopped one is left unwritten.
-fn make_stop(t: &mut [u8], x: u8, flags: u8)
-    requires { ⌜ (length (now t) ≡ tableSize) × (x ≤ 15) × (soundRecord (recordAt (now t) x) ≡ true) ⌝ }
+// Stops a channel that the busy set has, and takes it out; the record of another one is not looked at.
+fn stop_listed(t: &mut [u8], set: u16, x: u8, flags: u8)
+    requires { ⌜ (length (now t) ≡ tableSize) × (x ≤ 15) × (soundRecord (recordAt (now t) x) ≡ true) × (sealed (now t) ≡ now t) ⌝ }
+    requires { ⌜ isSet x set ≡ busy (motorAt (now t) x) ⌝ }
     ensures { λ _. ⌜ now (t .exit) ≡ withMotor (now (t .entry)) x (stopped flags (motorAt (now (t .entry)) x)) ⌝ }
 {
-    if !is_standing_at(t, x) {
+    if has(set, x) {
         let m = motor_at(t, x);
         put_drive(t, x, end_drive(m, flags));
+        mark_at(t, x);
     }
+}
+
+// Stops a channel.
+fn make_stop(t: &mut [u8], x: u8, flags: u8)
+    requires { ⌜ (soundTable (now t) ≡ true) × (x ≤ 15) ⌝ }
+    ensures { λ _. ⌜ now (t .exit) ≡ withMotor (now (t .entry)) x (stopped flags (motorAt (now (t .entry)) x)) ⌝ }
+{
+    let h = read_head(t);
+    stop_listed(t, h.busy, x, flags);
 }
 
 // Stops every channel.
@@ -63,16 +76,17 @@ fn stop_all(t: &mut [u8], flags: u8)
     requires { ⌜ soundTable (now t) ≡ true ⌝ }
     ensures { λ _. ⌜ now (t .exit) ≡ withMotors (now (t .entry)) (stopped flags) ⌝ }
 {
+    let h = read_head(t);
     let mut x: u8 = 0;
     while x < 16 {
-        make_stop(t, x, flags);
+        stop_listed(t, h.busy, x, flags);
         x += 1;
     }
 }
 
-// Releases a channel; the record of one that is not held is left unwritten.
+// Releases a channel; the record of one that is not held is left unwritten. It stays in the busy set.
 fn make_release(t: &mut [u8], x: u8)
-    requires { ⌜ (length (now t) ≡ tableSize) × (x ≤ 15) × (soundRecord (recordAt (now t) x) ≡ true) ⌝ }
+    requires { ⌜ (length (now t) ≡ tableSize) × (x ≤ 15) × (soundRecord (recordAt (now t) x) ≡ true) × (sealed (now t) ≡ now t) ⌝ }
     ensures { λ _. ⌜ now (t .exit) ≡ withMotor (now (t .entry)) x (released (motorAt (now (t .entry)) x)) ⌝ }
 {
     let m = motor_at(t, x);
@@ -95,7 +109,7 @@ fn release_all(t: &mut [u8])
 
 // Replaces the speed in force of a channel.
 fn make_speed(t: &mut [u8], x: u8, v: u64)
-    requires { ⌜ (length (now t) ≡ tableSize) × (x ≤ 15) × (isSpeed v ≡ true) ⌝ }
+    requires { ⌜ (length (now t) ≡ tableSize) × (x ≤ 15) × (isSpeed v ≡ true) × (sealed (now t) ≡ now t) ⌝ }
     ensures { λ _. ⌜ now (t .exit) ≡ withMotor (now (t .entry)) x (speedChanged (motorAt (now (t .entry)) x) v) ⌝ }
 {
     let m = motor_at(t, x);
@@ -104,7 +118,7 @@ fn make_speed(t: &mut [u8], x: u8, v: u64)
 
 // Makes a setting of a channel.
 fn make_setting(t: &mut [u8], x: u8, s: Setting)
-    requires { ⌜ (length (now t) ≡ tableSize) × (x ≤ 15) × (settingInRange s ≡ true) ⌝ }
+    requires { ⌜ (length (now t) ≡ tableSize) × (x ≤ 15) × (settingInRange s ≡ true) × (sealed (now t) ≡ now t) ⌝ }
     ensures { λ _. ⌜ now (t .exit) ≡ withMotor (now (t .entry)) x (withSetting (motorAt (now (t .entry)) x) s) ⌝ }
 {
     let m = motor_at(t, x);

@@ -2,8 +2,9 @@
 use mathlib.Core.Path.{_≡_, refl}
 use mathlib.Core.List.{[], _∷_}
 use mathlib.Core.Bool.{true, false}
+use lib.Dec.{eqb, leb}
 use Rattle.digits.specs.Bytes.{part, put, pieces, every, gather, allZero}
-use Rattle.digits.specs.Words.{word, wordBytes, withBit, withoutBit}
+use Rattle.digits.specs.Words.{word, wordBytes, withBit, withoutBit, marked, bitsOf}
 use Rattle.digits.specs.Places.{origin, placeOf, wordOf, countOf, cw, ccw}
 use Rattle.digits.specs.Computing.{computing-digits}
 
@@ -32,3 +33,10 @@ buffers = (refl, refl, refl, refl, refl, refl)
 bits : (withBit 3 0 ≡ 8) × (withBit 3 9 ≡ 9) × (withoutBit 0 9 ≡ 8) × (withoutBit 1 9 ≡ 9)
 unfolding computing-digits
 bits = (refl, refl, refl, refl)
+
+-- a set has bit c for c, the lowest first, and is marked at one place alone
+sets :
+    (bitsOf (λ c. true) 16 ≡ 0xffff) × (bitsOf (λ c. eqb c 3) 16 ≡ 8) × (bitsOf (λ c. leb 15 c) 16 ≡ 0x8000)
+    × (marked true 15 8 ≡ 0x8008) × (marked false 3 0x8008 ≡ 0x8000) × (marked true 3 8 ≡ 8) × (marked false 2 8 ≡ 8)
+unfolding computing-digits
+sets = (refl, refl, refl, refl, refl, refl, refl)

@@ -20,14 +20,19 @@ pub const PAUSE: u64 = 0x50_41_55_53_45_20;
 
 pub const ASK_PAUSE: u64 = 0x50_41_55_53_45_3f;
 
+// BSY?.
+pub const ASK_BUSY: u64 = 0x42_53_59_3f;
+
 pub const PAUSE_ON_ROW: u8 = 41;
 
 pub const PAUSE_OFF_ROW: u8 = 42;
 
 pub const ASK_PAUSE_ROW: u8 = 43;
 
+pub const ASK_BUSY_ROW: u8 = 44;
+
 // So many rows there are: the number of none of them.
-pub const NO_ROW: u8 = 44;
+pub const NO_ROW: u8 = 45;
 
 // The first row of a word.
 pub fn request_row(word: u64) -> u8
@@ -36,6 +41,7 @@ pub fn request_row(word: u64) -> u8
     match word {
         PAUSE => PAUSE_ON_ROW,
         ASK_PAUSE => ASK_PAUSE_ROW,
+        ASK_BUSY => ASK_BUSY_ROW,
         _ => NO_ROW,
     }
 }
@@ -49,6 +55,7 @@ pub fn request_tail(row: u8) -> Tail
         PAUSE_ON_ROW => Tail::TurnOn,
         PAUSE_OFF_ROW => Tail::TurnOff,
         ASK_PAUSE_ROW => Tail::Alone,
+        ASK_BUSY_ROW => Tail::Alone,
         _ => Tail::NoLine,
     }
 }
@@ -62,6 +69,7 @@ pub fn request_order(row: u8, f: Fields) -> Parsed
         PAUSE_ON_ROW => Parsed::Is(Order::ForHead(HeadOrder::Pause(1))),
         PAUSE_OFF_ROW => Parsed::Is(Order::ForHead(HeadOrder::Pause(0))),
         ASK_PAUSE_ROW => Parsed::Is(Order::AskHead(HeadQuestion::AskPause)),
+        ASK_BUSY_ROW => Parsed::Is(Order::AskHead(HeadQuestion::AskBusy)),
         _ => Parsed::Nothing,
     }
 }

@@ -14,7 +14,7 @@ use Rattle.line.specs.declared.Setting.the-variants.{Preset, SetCwLimit,
 use Rattle.line.specs.declared.Question.the-variants.{AskPosition, AskCwLimit, AskCcwLimit, AskSelected, AskSpeed, AskSwitches, AskMotor, AskStatus}
 use Rattle.line.specs.declared.Order.the-variants.{Go, Stop, StopAll, ChangeSpeed, Set, Ask, AskHead, ForHead}
 use Rattle.line.specs.declared.HeadOrder.the-variants.{Mode, AllReply, ClearErrors, ClearError, Pause}
-use Rattle.line.specs.declared.HeadQuestion.the-variants.{AskAllReply, AskFlags, AskError, AskPause}
+use Rattle.line.specs.declared.HeadQuestion.the-variants.{AskAllReply, AskFlags, AskError, AskPause, AskBusy}
 use Rattle.line.specs.declared.Parsed.{Parsed}
 use Rattle.line.specs.declared.Parsed.the-variants.{Is, Nothing}
 use Rattle.line.specs.Forms.{orderOf}
@@ -44,7 +44,8 @@ every-form :
     ≡ map (λ q. Is (Ask 0 q)) (AskPosition ∷ AskCwLimit ∷ AskCcwLimit ∷ AskSelected ∷ AskSpeed 2 ∷ AskSpeed 1 ∷ AskSpeed 0 ∷ AskSwitches ∷ AskMotor ∷ AskStatus ∷ []))
     × (map line ("LOC" ∷ "REM" ∷ "ALL_REP EN" ∷ "ALL_REP DS" ∷ "ALL_REP?" ∷ "ERRF?" ∷ "ERR?" ∷ "ERRC" ∷ "ERRC9" ∷ [])
     ≡ Is (ForHead (Mode 0)) ∷ Is (ForHead (Mode 1)) ∷ Is (ForHead (AllReply 1)) ∷ Is (ForHead (AllReply 0)) ∷ Is (AskHead AskAllReply) ∷ Is (AskHead AskFlags) ∷ Is (AskHead AskError) ∷ Is (ForHead ClearErrors) ∷ Is (ForHead (ClearError 9)) ∷ [])
-    × (map line ("PAUSE ON" ∷ "PAUSE OFF" ∷ "PAUSE?" ∷ []) ≡ Is (ForHead (Pause 1)) ∷ Is (ForHead (Pause 0)) ∷ Is (AskHead AskPause) ∷ [])
+    × (map line ("PAUSE ON" ∷ "PAUSE OFF" ∷ "PAUSE?" ∷ "BSY?" ∷ [])
+    ≡ Is (ForHead (Pause 1)) ∷ Is (ForHead (Pause 0)) ∷ Is (AskHead AskPause) ∷ Is (AskHead AskBusy) ∷ [])
 unfolding computing-line line plus minus
 every-form = (refl, refl, refl, refl, refl, refl, refl)
 
@@ -79,12 +80,12 @@ no-form :
 unfolding computing-line line
 no-form = refl
 
--- 02 §3: the lines of pause have one blank and nothing more
+-- 02 §3: the lines of pause have one blank and nothing more; 02 §6: `BSY?` names no channel
 no-pause :
     map line
     ("PAUSE" ∷ "PAUSE " ∷ "PAUSEON" ∷ "PAUSE  ON" ∷ "PAUSE ?" ∷ "PAUSE? " ∷ "PAUSE?0" ∷ "PAUSE O" ∷ "PAUSE OF" ∷ "PAUSE ONN" ∷ "PAUSE OFFF" ∷ "PAUSE OFN"
-    ∷ "PAUSE OXF" ∷ "PAUSE ON " ∷ "PAUSE OFF " ∷ "PAUSE on" ∷ "PAUSE0 ON" ∷ "PAUSE EN" ∷ "ALL_REP ON" ∷ "PAUS ON" ∷ [])
-    ≡ replicate 20 Nothing
+    ∷ "PAUSE OXF" ∷ "PAUSE ON " ∷ "PAUSE OFF " ∷ "PAUSE on" ∷ "PAUSE0 ON" ∷ "PAUSE EN" ∷ "ALL_REP ON" ∷ "PAUS ON" ∷ "BSY" ∷ "BSY?0" ∷ "BSY? " ∷ "BSY0?" ∷ "BUSY?" ∷ [])
+    ≡ replicate 25 Nothing
 unfolding computing-line line
 no-pause = refl
 

@@ -17,7 +17,7 @@ use Rattle.line.specs.declared.Question.the-variants.{AskPosition, AskCw
 use Rattle.line.specs.declared.Order.{Order}
 use Rattle.line.specs.declared.Order.the-variants.{Go, Stop, StopAll, ChangeSpeed, Set, Ask, AskHead, ForHead}
 use Rattle.line.specs.declared.HeadOrder.the-variants.{Mode, AllReply, ClearErrors, ClearError, Pause}
-use Rattle.line.specs.declared.HeadQuestion.the-variants.{AskAllReply, AskFlags, AskError, AskPause}
+use Rattle.line.specs.declared.HeadQuestion.the-variants.{AskAllReply, AskFlags, AskError, AskPause, AskBusy}
 use Rattle.line.specs.declared.Parsed.{Parsed}
 use Rattle.line.specs.declared.Parsed.the-variants.{Is, Nothing}
 use Rattle.line.specs.declared.Field.{Field}
@@ -134,12 +134,13 @@ headRows =
     ∷ []
 
 -- The forms that the requests of document 02 add, in the order of the requests. A row is added at the end, so that no other row's
--- number shifts. 02 §3: "Add `PAUSE ON`, `PAUSE OFF` and `PAUSE?`".
+-- number shifts. 02 §3: "Add `PAUSE ON`, `PAUSE OFF` and `PAUSE?`"; 02 §6: "A read `BSY?`".
 abbrev pub requestRows : List Row
 requestRows =
     row "PAUSE " ON (λ f. ForHead (Pause 1))
     ∷ row "PAUSE " OFF (λ f. ForHead (Pause 0))
     ∷ row "PAUSE?" alone (λ f. AskHead AskPause)
+    ∷ row "BSY?" alone (λ f. AskHead AskBusy)
     ∷ []
 
 -- a line is read whole: nothing follows the fields

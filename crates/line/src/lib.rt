@@ -155,6 +155,7 @@ pub enum HeadQuestion {
     AskError,
     // PAUSE?
     AskPause,
+    AskBusy,
 }
 
 // What is to be changed in the head. Mode, all-reply and pause carry the byte that it is to hold: 0 local, 1 remote; 0 off, 1

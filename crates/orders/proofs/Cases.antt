@@ -11,7 +11,7 @@ use Rattle.line.specs.declared.Four.{Four}
 use Rattle.line.specs.declared.Start.the-variants.{Abs, Rel, Scan, Jog}
 use Rattle.line.specs.declared.Setting.the-variants.{Preset, SetCwLimit, SetCcwLimit, Select, SetSpeed, SetSwitches, SetMotor}
 use Rattle.line.specs.declared.Question.the-variants.{AskPosition}
-use Rattle.line.specs.declared.HeadQuestion.the-variants.{AskError, AskPause}
+use Rattle.line.specs.declared.HeadQuestion.the-variants.{AskError, AskPause, AskBusy}
 use Rattle.line.specs.declared.HeadOrder.the-variants.{Mode, AllReply, ClearErrors, ClearError, Pause}
 use Rattle.line.specs.declared.Order.the-variants.{Go, Stop, StopAll, ChangeSpeed, Set, Ask, AskHead, ForHead}
 use Rattle.orders.specs.Values.{needsRemote, valueInRange}
@@ -31,8 +31,8 @@ four a b c d = record { a = a; b = b; c = c; d = d }
 -- Starts, SPC, settings, all-reply and pause need remote mode; stops, reads, LOC, REM and the ERR family do not.
 modes :
     map needsRemote (Go 0 (Scan cw) ∷ ChangeSpeed 0 1 ∷ Set 0 (Select 2) ∷ ForHead (AllReply 1) ∷ ForHead (Pause 1) ∷ ForHead (Pause 0)
-    ∷ Stop 0 0x40 ∷ StopAll 0x80 ∷ Ask 0 AskPosition ∷ ForHead (Mode 0) ∷ ForHead (Mode 1) ∷ AskHead AskError ∷ AskHead AskPause ∷ ForHead ClearErrors ∷ ForHead (ClearError 3) ∷ [])
-    ≡ true ∷ true ∷ true ∷ true ∷ true ∷ true ∷ false ∷ false ∷ false ∷ false ∷ false ∷ false ∷ false ∷ false ∷ false ∷ []
+    ∷ Stop 0 0x40 ∷ StopAll 0x80 ∷ Ask 0 AskPosition ∷ ForHead (Mode 0) ∷ ForHead (Mode 1) ∷ AskHead AskError ∷ AskHead AskPause ∷ AskHead AskBusy ∷ ForHead ClearErrors ∷ ForHead (ClearError 3) ∷ [])
+    ≡ true ∷ true ∷ true ∷ true ∷ true ∷ true ∷ false ∷ false ∷ false ∷ false ∷ false ∷ false ∷ false ∷ false ∷ false ∷ false ∷ []
 unfolding computing-orders
 modes = refl
 

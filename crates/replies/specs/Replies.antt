@@ -5,7 +5,7 @@ use mathlib.Core.Bool.{cond}
 use lib.Dec.{eqb}
 use Rattle.digits.specs.Words.{bit, isSet}
 use Rattle.digits.specs.Places.{cw}
-use Rattle.text.specs.Text.{bytes, digitByte, decimal, hexByte}
+use Rattle.text.specs.Text.{bytes, digitByte, decimal, hexByte, hexWord}
 use Rattle.record.specs.declared.Setup.{Setup}
 use Rattle.record.specs.declared.Motor.{Motor}
 use Rattle.status.specs.Status.{positionText, statusText}
@@ -17,7 +17,7 @@ use Rattle.table.specs.Layout.{paused}
 use Rattle.line.specs.declared.Question.{Question}
 use Rattle.line.specs.declared.Question.the-variants.{AskPosition, AskCwLimit, AskCcwLimit, AskSelected, AskSpeed, AskSwitches, AskMotor, AskStatus}
 use Rattle.line.specs.declared.HeadQuestion.{HeadQuestion}
-use Rattle.line.specs.declared.HeadQuestion.the-variants.{AskAllReply, AskFlags, AskError, AskPause}
+use Rattle.line.specs.declared.HeadQuestion.the-variants.{AskAllReply, AskFlags, AskError, AskPause, AskBusy}
 
 -- "No. | Text": the text for each number; 5 and 6 have "none". 02 §5: "the text stays NG .., also for later command numbers": NG is the
 -- text of every number that is left over
@@ -81,9 +81,11 @@ allReplyText all = cond (eqb all 1) (bytes "EN") (bytes "DS")
 unfoldable pub pauseText : Head → List ℕ
 pauseText h = cond (paused h) (bytes "ON") (bytes "OFF")
 
--- what is answered to a question about the head: "`ERRF?` two hex digits"
+-- what is answered to a question about the head: "`ERRF?` two hex digits"; 02 §6: "`BSY?` .. answers four hex digits", those of the busy
+-- set as the head holds it
 unfoldable pub headText : Head → HeadQuestion → List ℕ
 headText h AskAllReply = allReplyText (h .reply)
 headText h AskFlags = hexByte (h .errors)
 headText h AskError = errorText (h .errors)
 headText h AskPause = pauseText h
+headText h AskBusy = hexWord (h .busy)

@@ -20,6 +20,7 @@ use table::head::is_paused;
 use text::decimal::write_decimal;
 use text::decimal::write_signed;
 use text::hex::write_hex;
+use text::hex::write_hex_word;
 ghost use mathlib.Core.Path.{_≡_};
 ghost use mathlib.Core.Bool.{true};
 ghost use Prim.Native.Nat.{_≤_};
@@ -51,6 +52,10 @@ pub fn write_head_question(out: &mut [u8], h: Head, q: HeadQuestion) -> usize
         }
         HeadQuestion::AskError => write_error(out, h.errors),
         HeadQuestion::AskPause => write_either(out, is_paused(h), b"ON", b"OFF"),
+        HeadQuestion::AskBusy => {
+            write_hex_word(out, h.busy);
+            4
+        }
     }
 }
 

@@ -1,5 +1,5 @@
 -- What a write into the table keeps: the other fields and records, and its soundness. Assumes nothing.
-use mathlib.Core.Path.{_≡_, refl, _∙_}
+use mathlib.Core.Path.{_≡_, refl, sym, _∙_}
 use mathlib.Core.List.{List}
 use mathlib.Core.Bool.{Bool, true, false}
 use Prim.Native.Nat.{ℕ, zero, suc, _+_, _≤_, _<_}
@@ -13,13 +13,13 @@ use Rattle.digits.proofs.PartLaws.{part-bytes}
 use Rattle.record.specs.declared.Motor.{Motor}
 use Rattle.record.specs.Record.{recordOf}
 use Rattle.record.proofs.RoundTrip.{record-length}
-use Rattle.motor.specs.Sound.{soundMotor, soundRecord, heldRight}
+use Rattle.motor.specs.Sound.{busy, soundMotor, soundRecord, heldRight}
 use Rattle.motor.proofs.RecordLaws.{record-sound, sound-written-read, sound-read-written}
 use Rattle.table.specs.Layout.{tableSize, headOf, paused, headUsed, headRest, recordStart, recordAt, motorAt, busySet, sealed, withRecord, withMotor, withMotors, freshTable}
 use Rattle.table.specs.Sound.{soundTable}
 use Rattle.table.specs.Computing.{computing-table}
 use Rattle.table.proofs.PieceLaws.{put-back}
-use Rattle.table.proofs.SealLaws.{placed-length, placed-record, placed-head, placed-other, sealed-length, sealed-before, sealed-after, sealed-motor, sealed-true, sealed-again}
+use Rattle.table.proofs.SealLaws.{placed-length, placed-record, placed-head, placed-other, sealed-length, sealed-before, sealed-after, sealed-motor, sealed-true, sealed-again, kept-sealed}
 use Rattle.table.proofs.TableLaws.{motor-length, upTo, up-to-none, up-to-next, up-to-all, sound-length, sound-record-at, sound-motor-at, sound-held-at, sound-head-of, sound-from}
 use Rattle.table.proofs.HeadLaws.{same-head, same-sound}
 
@@ -66,6 +66,13 @@ module _ (t : List ℕ) (c : ℕ) (sound : soundRecord (recordAt t c) ≡ true) 
   pub motor-back : length t ≡ tableSize → c ≤ 15 → sealed t ≡ t → withMotor t c (motorAt t c) ≡ t
   unfolding withMotor
   motor-back e h seal = rw (read-back, put-back t (recordStart c) 64 (omega arith)) seal
+
+-- A sound motor that is busy as the one before it needs no mark in the busy set of a sealed table.
+pub motor-unmarked : (t : List ℕ) (c : ℕ) (m : Motor) → length t ≡ tableSize → c ≤ 15 → sealed t ≡ t → soundMotor m ≡ true
+    → busy m ≡ busy (motorAt t c) → withRecord t c (recordOf m) ≡ withMotor t c m
+unfolding withMotor
+motor-unmarked t c m e h seal s same =
+    sym (kept-sealed t c (recordOf m) e h (record-length m) seal (rw (sound-written-read m s) same))
 
 -- A sound motor written into a sound table, held under pause alone, leaves it sound.
 pub motor-sound : (t : List ℕ) (c : ℕ) (m : Motor) → soundTable t ≡ true → c ≤ 15 → soundMotor m ≡ true

@@ -147,9 +147,12 @@ sound-under-at t c s h =
 pub sound-record-at : (t : List ℕ) (c : ℕ) → soundTable t ≡ true → c ≤ 15 → soundRecord (recordAt t c) ≡ true
 sound-record-at t c s h = under-record (paused (headOf t)) (recordAt t c) (sound-under-at t c s h)
 
-pub sound-motor-at : (t : List ℕ) (c : ℕ) → soundTable t ≡ true → c ≤ 15 → soundMotor (motorAt t c) ≡ true
+pub motor-sound-in : (t : List ℕ) (c : ℕ) → soundRecord (recordAt t c) ≡ true → soundMotor (motorAt t c) ≡ true
 unfolding motorAt
-sound-motor-at t c s h = record-motor-sound (recordAt t c) (sound-record-at t c s h)
+motor-sound-in t c s = record-motor-sound (recordAt t c) s
+
+pub sound-motor-at : (t : List ℕ) (c : ℕ) → soundTable t ≡ true → c ≤ 15 → soundMotor (motorAt t c) ≡ true
+sound-motor-at t c s h = motor-sound-in t c (sound-record-at t c s h)
 
 -- What is held in it is held under pause.
 pub sound-held-at : (t : List ℕ) (c : ℕ) → soundTable t ≡ true → c ≤ 15 → heldRight (paused (headOf t)) (motorAt t c) ≡ true

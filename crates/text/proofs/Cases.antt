@@ -7,7 +7,7 @@ use lib.Dec.{eqb}
 use borrow.Author.Tests.{eqb-false}
 use Rattle.digits.specs.Words.{word}
 use Rattle.digits.specs.Places.{origin}
-use Rattle.text.specs.Text.{bytes, decimal, signedDecimal, hexByte, hexValue, isHex, valueOf, digitsAtFront, Wrote}
+use Rattle.text.specs.Text.{bytes, decimal, signedDecimal, hexByte, hexWord, hexValue, isHex, valueOf, digitsAtFront, Wrote}
 use Rattle.text.specs.Text.{numberAtFront, signByte, distance}
 use Rattle.text.specs.declared.decimal.Number.the-variants.{Nothing, Read}
 use Rattle.text.specs.Computing.{computing-text}
@@ -17,8 +17,9 @@ written :
     (signedDecimal 7 origin ≡ bytes "+0000000") × (signedDecimal 7 (origin + 3) ≡ bytes "+0000003")
     × (signedDecimal 7 1 ≡ bytes "-2147483647") × (decimal 6 50 ≡ bytes "000050") × (decimal 6 5000000 ≡ bytes "5000000")
     × (decimal 1 0 ≡ bytes "0") × (hexByte 0x80 ≡ bytes "80") × (hexByte 15 ≡ bytes "0F")
+    × (hexWord 0x80A9 ≡ bytes "80A9") × (hexWord 9 ≡ bytes "0009")
 unfolding computing-text
-written = (refl, refl, refl, refl, refl, refl, refl, refl)
+written = (refl, refl, refl, refl, refl, refl, refl, refl, refl, refl)
 
 -- Texts of different numbers are not the same text.
 apart : (a b : List ℕ) → eqb (word a) (word b) ≡ false → a ≡ b → ⊥

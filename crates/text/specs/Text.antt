@@ -96,6 +96,10 @@ hexDigit n = cond (ltb n 10) (digitByte n) (code "A" + (n - 10))
 unfoldable pub hexByte : ℕ → List ℕ
 hexByte n = hexDigit (n / 16) ∷ hexDigit (n % 16) ∷ []
 
+-- "four hex digits" (02 §6): those of a number of two bytes, the highest first
+unfoldable pub hexWord : ℕ → List ℕ
+hexWord n = hexByte (n / 256) ++ hexByte (n % 256)
+
 -- "d: 1 to 10 digits", as many as stand there: the number at the front of a text, with how many digits it has
 unfoldable pub numberAtFront : List ℕ → Number
 numberAtFront s =

@@ -3,7 +3,7 @@ ghost use mathlib.Core.Path.{_≡_};
 ghost use Prim.Native.Nat.{_%_, _≤_};
 ghost use lib.ListN.{length};
 ghost use Rattle.digits.specs.Bytes.{put};
-ghost use Rattle.text.specs.Text.{hexDigit, hexByte};
+ghost use Rattle.text.specs.Text.{hexDigit, hexByte, hexWord};
 
 // The digit of the low half of a byte.
 pub fn hex_digit(n: u8) -> u8
@@ -20,4 +20,13 @@ pub fn write_hex(out: &mut [u8], n: u8)
 {
     out[0] = hex_digit(n / 16);
     out[1] = hex_digit(n);
+}
+
+// A number of two bytes in four digits, at the front of the buffer.
+pub fn write_hex_word(out: &mut [u8], n: u16)
+    requires { ⌜ 4 ≤ length (now out) ⌝ }
+    ensures { λ _. ⌜ now (out .exit) ≡ put (now (out .entry)) 0 (hexWord n) ⌝ }
+{
+    write_hex(out, (n / 256) as u8);
+    write_hex(&mut out[2..], (n % 256) as u8);
 }

@@ -3,7 +3,7 @@ use mathlib.Core.Path.{refl}
 use Prim.Native.Nat.{_≤_}
 use lib.ListN.{length}
 use borrow.Author.Needs.{needs}
-use Rattle.text.specs.Text.{bytes, hexByte}
+use Rattle.text.specs.Text.{bytes, hexByte, hexWord}
 use Rattle.replies.specs.Replies.{allReplyText, pauseText, headText}
 use Rattle.replies.proofs.ReplyLaws.{short, head-within}
 use Rattle.replies.proofs.write_head_question.Statement.{statement}
@@ -52,6 +52,12 @@ slice-aggregate-write-either-4 c = search needs
 write-either-requires-2 : tie.Need-write-either-requires-2
 write-either-requires-2 c κs = search needs
 
+enum-told-5 : tie.Need-enum-told-5
+enum-told-5 c = search needs
+
+write-hex-word-requires : tie.Need-write-hex-word-requires
+write-hex-word-requires c κs = search needs
+
 same-length : tie.Need-same-length
 same-length c = search needs
 
@@ -88,6 +94,15 @@ returns-4 c =
     let s = c .before .before .before .before .before .before .before in
     short (within (s .before .before .before)) (rw (s .enum-told4 .given .1, ← c .before .before .before .before .before .is-paused .ensures) (c .before .before .write-either2 .ensures))
 
+same-length-5 : tie.Need-same-length-5
+same-length-5 c = search needs
+
+returns-5 : tie.Need-returns-5
+unfolding headText hexWord hexByte
+returns-5 c =
+    let s = c .before .before .before .before in
+    short (within (s .before .before .before)) (rw (s .enum-told5 .given .1) (record { count = refl; buffer = c .before .before .write-hex-word .ensures }))
+
 pub write-head-question-spec : {M : Type 1} → statement M
 write-head-question-spec =
     tie.close
@@ -105,6 +120,8 @@ write-head-question-spec =
     slice-aggregate-write-either-3
     slice-aggregate-write-either-4
     write-either-requires-2
+    enum-told-5
+    write-hex-word-requires
     same-length
     returns
     same-length-2
@@ -112,4 +129,6 @@ write-head-question-spec =
     same-length-3
     returns-3
     same-length-4
-    returns-4)
+    returns-4
+    same-length-5
+    returns-5)

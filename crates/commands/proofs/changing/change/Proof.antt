@@ -3,7 +3,7 @@ use Rattle.commands.proofs.ChannelLaws.{named, named-channel}
 use Rattle.orders.specs.Values.{valueInRange}
 use Rattle.commands.specs.Changing.{changed}
 use borrow.Author.Needs.{needs}
-use Rattle.table.proofs.TableLaws.{sound-length, sound-record-at}
+use Rattle.table.proofs.TableLaws.{sound-length, sound-sealed}
 use Rattle.commands.proofs.changing.change.Statement.{statement}
 use Rattle.commands.proofs.changing.change.Tie as tie
 
@@ -12,7 +12,11 @@ enum-known-o c = search needs
 
 make-start-requires : tie.Need-make-start-requires
 unfolding named valueInRange
-make-start-requires c κs = (sound-length _ (c .before .before .before .before .before .pre .0), rw (c .before .before .o .given .1) at (named-channel _ (c .before .before .before .before .before .pre .1)), rw (c .before .before .o .given .1) at (c .before .before .before .before .before .pre .2))
+make-start-requires c κs =
+    let k = c .before .before .before .before in
+    let a = k .before in
+    let told = c .before .before .o .given .1 in
+    (sound-length _ (a .pre .0), rw told at (named-channel _ (a .pre .1)), rw told at (a .pre .2), sound-sealed _ (a .pre .0) (λ j. k .slice-known .given j .fits))
 
 enum-known-o-2 : tie.Need-enum-known-o-2
 enum-known-o-2 c = search needs
@@ -21,8 +25,7 @@ make-stop-requires : tie.Need-make-stop-requires
 unfolding named
 make-stop-requires c κs =
     let a = c .before .before .before .before .before in
-    let channel = rw (c .before .before .o2 .given .1) at (named-channel _ (a .pre .1)) in
-    (sound-length _ (a .pre .0), channel, sound-record-at _ _ (a .pre .0) channel)
+    (a .pre .0, rw (c .before .before .o2 .given .1) at (named-channel _ (a .pre .1)))
 
 enum-known-o-3 : tie.Need-enum-known-o-3
 enum-known-o-3 c = search needs
@@ -35,14 +38,22 @@ enum-known-o-4 c = search needs
 
 make-speed-requires : tie.Need-make-speed-requires
 unfolding named valueInRange
-make-speed-requires c κs = (sound-length _ (c .before .before .before .before .before .pre .0), rw (c .before .before .o4 .given .1) at (named-channel _ (c .before .before .before .before .before .pre .1)), rw (c .before .before .o4 .given .1) at (c .before .before .before .before .before .pre .2))
+make-speed-requires c κs =
+    let k = c .before .before .before .before in
+    let a = k .before in
+    let told = c .before .before .o4 .given .1 in
+    (sound-length _ (a .pre .0), rw told at (named-channel _ (a .pre .1)), rw told at (a .pre .2), sound-sealed _ (a .pre .0) (λ j. k .slice-known .given j .fits))
 
 enum-known-o-5 : tie.Need-enum-known-o-5
 enum-known-o-5 c = search needs
 
 make-setting-requires : tie.Need-make-setting-requires
 unfolding named valueInRange
-make-setting-requires c κs = (sound-length _ (c .before .before .before .before .before .pre .0), rw (c .before .before .o5 .given .1) at (named-channel _ (c .before .before .before .before .before .pre .1)), rw (c .before .before .o5 .given .1) at (c .before .before .before .before .before .pre .2))
+make-setting-requires c κs =
+    let k = c .before .before .before .before in
+    let a = k .before in
+    let told = c .before .before .o5 .given .1 in
+    (sound-length _ (a .pre .0), rw told at (named-channel _ (a .pre .1)), rw told at (a .pre .2), sound-sealed _ (a .pre .0) (λ j. k .slice-known .given j .fits))
 
 enum-told : tie.Need-enum-told
 enum-told c = search needs

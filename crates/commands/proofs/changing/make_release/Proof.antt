@@ -8,9 +8,12 @@ use Rattle.record.specs.Record.{recordOf, withDrive, letGo}
 use Rattle.record.specs.Progress.{flagsAndDrive}
 use Rattle.record.proofs.ProgressLaws.{drive-written}
 use Rattle.drive.specs.Drives.{released}
-use Rattle.drive.proofs.Laws.{released-free}
-use Rattle.table.specs.Layout.{recordStart, recordAt, motorAt, withMotor}
-use Rattle.table.proofs.KeptLaws.{read-back, motor-back}
+use Rattle.motor.specs.Sound.{soundMotor}
+use Rattle.drive.proofs.Laws.{released-free, released-drive}
+use Rattle.drive.proofs.KeptSound.{released-sound}
+use Rattle.table.specs.Layout.{recordAt, motorAt}
+use Rattle.table.proofs.TableLaws.{motor-sound-in}
+use Rattle.table.proofs.KeptLaws.{read-back, motor-back, motor-unmarked}
 use Rattle.commands.proofs.changing.make_release.Statement.{statement}
 use Rattle.commands.proofs.changing.make_release.Tie as tie
 
@@ -38,7 +41,6 @@ same-length : tie.Need-same-length
 same-length c = search needs
 
 returns : tie.Need-returns
-unfolding withMotor
 returns c =
     let p = c .before .before in
     let i = p .before .before .before in
@@ -49,9 +51,11 @@ returns c =
     let x = a .args .x in
     let held : motorAt t x .drive .held ≡ true = rw (← m .motor-at .ensures) (i .if1 .taken) in
     let after = released (motorAt t x) in
-    let written : put t (recordStart x) (put (recordAt t x) 31 (flagsAndDrive (after .ended) (after .drive))) ≡ withMotor t x after =
-    rw (← read-back t x (a .pre .2) (λ j. k .slice-known .given j .fits)) (rw (release-written (motorAt t x) held)) in
-    rw (p .put-drive .ensures, p .before .release .ensures, m .motor-at .ensures) written
+    let sound : soundMotor (motorAt t x) ≡ true = motor-sound-in t x (a .pre .2) in
+    let written : put (recordAt t x) 31 (flagsAndDrive (after .ended) (after .drive)) ≡ recordOf after =
+    rw (← read-back t x (a .pre .2) (λ j. k .slice-known .given j .fits)) (release-written (motorAt t x) held) in
+    rw (p .put-drive .ensures, p .before .release .ensures, m .motor-at .ensures, written)
+    (motor-unmarked t x after (a .pre .0) (a .pre .1) (a .pre .3) (released-sound (motorAt t x) sound) (rw (released-drive (motorAt t x))))
 
 same-length-2 : tie.Need-same-length-2
 same-length-2 c = search needs
@@ -65,7 +69,7 @@ returns-2 c =
     let x = a .args .x in
     let free : motorAt t x .drive .held ≡ false = rw (← m .motor-at .ensures) (c .if1 .left) in
     rw (released-free (motorAt t x) free)
-    (sym (motor-back t x (a .pre .2) (λ j. k .slice-known .given j .fits) (a .pre .0) (a .pre .1)))
+    (sym (motor-back t x (a .pre .2) (λ j. k .slice-known .given j .fits) (a .pre .0) (a .pre .1) (a .pre .3)))
 
 pub make-release-spec : {M : Type 1} → statement M
 make-release-spec =

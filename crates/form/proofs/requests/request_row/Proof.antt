@@ -14,4 +14,5 @@ request-row-spec =
     (tie.spec
     (λ c. rw (c .match .keys1) (record { row = refl; most = omega arith }))
     (λ c. rw (c .match .keys2) (record { row = refl; most = omega arith }))
+    (λ c. rw (c .match .keys3) (record { row = refl; most = omega arith }))
     (λ c. rw (none-with requestRows _ refl (c .match .rest)) (record { row = refl; most = omega arith })))
