@@ -2,13 +2,14 @@
 -- Assumes nothing.
 use mathlib.Core.Path.{_≡_, refl, sym, _∙_}
 use mathlib.Core.List.{List, [], _∷_, _++_, append-assoc, append-nil}
-use Prim.Native.Nat.{ℕ, suc, _+_, _-_, _<_, _≤_}
+use Prim.Native.Nat.{ℕ, suc, _+_, _*_, _-_, _<_, _≤_}
 use native.Mathlib.Nat.{suc-add, add-suc, add-zero, zero-add, add-assoc}
 use native.Mathlib.Numerals.{add-one, one-add}
 use native.Mathlib.Omega.{arith}
-use lib.ListN.{length, take, drop, getD, set, length-append, length-take, length-drop, take-append-drop}
+use lib.ListN.{length, take, drop, getD, set, replicate, length-append, length-take, length-drop, length-replicate, take-append-drop, replicate-append-replicate}
 use lib.Seq.{drop-length, sets, sets-eq, take-suc, set-at, take-add, take-take, drop-drop, take-append-le, drop-append-le, take-at, drop-at}
 use Rattle.digits.specs.Bytes.{put, joined}
+use Rattle.digits.specs.Words.{wordBytes}
 
 -- nothing is put
 pub put-none : (t : List ℕ) (i : ℕ) → put t i [] ≡ t
@@ -114,3 +115,20 @@ put-apart t x y a m l =
 
 pub put-swap : (t x y : List ℕ) (a b : ℕ) → a + length x ≤ b → b + length y ≤ length t → put (put t a x) b y ≡ put (put t b y) a x
 put-swap t x y a b h l = let at : b ≡ a + length x + (b - (a + length x)) = omega arith in rw at (put-apart t x y a (b - (a + length x)) (omega arith))
+
+-- the first k words of four bytes zeroed
+unfoldable pub zeroedTo : List ℕ → ℕ → List ℕ
+zeroedTo s k = put s 0 (replicate (4 * k) 0)
+
+pub zeroed-none : (s : List ℕ) → zeroedTo s 0 ≡ s
+unfolding zeroedTo
+zeroed-none s = put-none s 0
+
+pub zeroed-next : (s : List ℕ) (k : ℕ) → 4 * (k + 1) ≤ length s → put (zeroedTo s k) (4 * k) (wordBytes 4 0) ≡ zeroedTo s (k + 1)
+unfolding zeroedTo wordBytes
+zeroed-next s k h =
+    let x : List ℕ = replicate (4 * k) 0 in
+    let n : length x ≡ 4 * k = length-replicate (4 * k) 0 in
+    let more : 4 * (k + 1) ≡ 4 * k + 4 = omega arith in
+    let step : put (put s 0 x) (0 + length x) (wordBytes 4 0) ≡ put s 0 (x ++ wordBytes 4 0) = put-after s x (wordBytes 4 0) 0 (omega arith) in
+    rw (more, ← replicate-append-replicate {A = ℕ} (4 * k) 4 0) (rw (zero-add, n) at step)

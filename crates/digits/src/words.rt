@@ -3,7 +3,7 @@
 ghost use mathlib.Core.Path.{_≡_};
 ghost use mathlib.Core.List.{[], _∷_};
 ghost use Prim.Native.Nat.{_+_, _≤_};
-ghost use lib.ListN.{length};
+ghost use lib.ListN.{length, replicate};
 ghost use Rattle.digits.specs.Bytes.{part, put};
 ghost use Rattle.digits.specs.Words.{word, wordBytes};
 
@@ -65,4 +65,16 @@ pub fn put_long(s: &mut [u8], at: usize, n: u32)
     s[at + 1] = (n / 256 % 256) as u8;
     s[at + 2] = (n / 256 / 256 % 256) as u8;
     s[at + 3] = (n / 256 / 256 / 256 % 256) as u8;
+}
+
+// Zeroes the first 64 bytes, by words of four.
+pub fn zero_front(s: &mut [u8])
+    requires { ⌜ 64 ≤ length (now s) ⌝ }
+    ensures { λ _. ⌜ now (s .exit) ≡ put (now (s .entry)) 0 (replicate 64 0) ⌝ }
+{
+    let mut k: usize = 0;
+    while k < 16 {
+        put_long(s, 4 * k, 0);
+        k += 1;
+    }
 }

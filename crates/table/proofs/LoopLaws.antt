@@ -3,15 +3,15 @@ use mathlib.Core.Path.{_≡_, refl, sym, _∙_}
 use mathlib.Core.List.{List, _++_}
 use mathlib.Core.Bool.{Bool, true, false, _&&_, not, cond, false≢true}
 use Prim.Native.Nat.{ℕ, zero, suc, _+_, _*_, _-_, _≤_, _<_}
-use native.Mathlib.Nat.{zero-add, add-zero, add-suc}
+use native.Mathlib.Nat.{add-zero, add-suc}
 use native.Mathlib.Numerals.{add-one}
 use native.Mathlib.Omega.{arith}
-use lib.ListN.{length, drop, replicate, length-append, length-replicate, replicate-append-replicate}
+use lib.ListN.{length, drop, replicate, length-append}
 use lib.Dec.{eqb}
 use lib.Seq.{drop-drop}
 use borrow.Author.Tests.{eqb-true, eqb-false, eq-eqb}
 use Rattle.digits.specs.Bytes.{part, put, pieces, every, gather, allZero}
-use Rattle.digits.specs.Words.{word, wordBytes, isSet}
+use Rattle.digits.specs.Words.{word, isSet}
 use Rattle.digits.proofs.PartLaws.{part-add, zero-append}
 use Rattle.digits.proofs.PutLaws.{put-after, put-none, put-whole}
 use Rattle.digits.proofs.WordLaws.{word-zero, zero-part}
@@ -47,25 +47,6 @@ zero-fails t from k f h l e =
     let at : from + (8 * k - from) ≡ 8 * k = omega arith in
     rw (n, part-add t from (8 * k - from) (8 + (56 - 8 * k)), zero-append, at, zero-part t (8 * k) 8 (56 - 8 * k), e)
     (and-false (allZero (part t from (8 * k - from))))
-
--- the first k words of four bytes zeroed
-unfoldable pub zeroedTo : List ℕ → ℕ → List ℕ
-zeroedTo t k = put t 0 (replicate (4 * k) 0)
-
-pub zeroed-none : (t : List ℕ) → zeroedTo t 0 ≡ t
-unfolding zeroedTo
-zeroed-none t = put-none t 0
-
-pub zeroed-next : (t : List ℕ) (k : ℕ) → length t ≡ tableSize → k < 16
-    → put (zeroedTo t k) (4 * k) (wordBytes 4 0) ≡ zeroedTo t (k + 1)
-unfolding zeroedTo wordBytes
-zeroed-next t k e h =
-    let x : List ℕ = replicate (4 * k) 0 in
-    let n : length x ≡ 4 * k = length-replicate (4 * k) 0 in
-    let more : 4 * (k + 1) ≡ 4 * k + 4 = omega arith in
-    let step : put (put t 0 x) (0 + length x) (wordBytes 4 0) ≡ put t 0 (x ++ wordBytes 4 0) =
-    put-after t x (wordBytes 4 0) 0 (omega arith) in
-    rw (more, ← replicate-append-replicate {A = ℕ} (4 * k) 4 0) (rw (zero-add, n) at step)
 
 -- A channel is in a set where it is busy, or it is not in it and not busy.
 listed-busy : (a b : Bool) → cond a b (not b) ≡ true → a ≡ b

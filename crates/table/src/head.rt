@@ -2,12 +2,11 @@
 // Whoever changes one field reads the head, sets the field, and writes the head back.
 
 use digits::words::byte_at;
-use digits::words::put_long;
 use digits::words::short_at;
 use digits::words::wide_at;
 ghost use mathlib.Core.Path.{_≡_};
 ghost use mathlib.Core.List.{[], _∷_};
-ghost use lib.ListN.{length, replicate};
+ghost use lib.ListN.{length};
 ghost use Rattle.digits.specs.Bytes.{part, put, allZero};
 ghost use Rattle.table.specs.Layout.{tableSize, headUsed, headRest, headOf, setBytes, paused, withHead, withMode, withReply, withErrors, withPause};
 ghost use Rattle.table.specs.Sound.{headInRange, soundHead};
@@ -136,17 +135,5 @@ pub fn sound_head(t: &[u8]) -> bool
         head_zero(t)
     } else {
         false
-    }
-}
-
-// Zeroes the head, by words of four bytes.
-pub fn zero_head(t: &mut [u8])
-    requires { ⌜ length (now t) ≡ tableSize ⌝ }
-    ensures { λ _. ⌜ now (t .exit) ≡ put (now (t .entry)) 0 (replicate 64 0) ⌝ }
-{
-    let mut k: usize = 0;
-    while k < 16 {
-        put_long(t, 4 * k, 0);
-        k += 1;
     }
 }

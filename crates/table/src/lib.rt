@@ -6,11 +6,11 @@ pub mod head;
 use digits::places::ORIGIN;
 use digits::sets::has;
 use digits::sets::mark;
+use digits::words::zero_front;
 use head::is_paused;
 use head::read_head;
 use head::sound_head;
 use head::write_busy;
-use head::zero_head;
 use motor::sound_record;
 use record::Limits;
 use record::Motor;
@@ -228,6 +228,6 @@ pub fn make_fresh(t: &mut [u8])
     requires { ⌜ length (now t) ≡ tableSize ⌝ }
     ensures { λ _. ⌜ now (t .exit) ≡ freshTable ⌝ }
 {
-    zero_head(t);
+    zero_front(t);
     fresh_records(t);
 }

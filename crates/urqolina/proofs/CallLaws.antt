@@ -28,7 +28,7 @@ four-bytes : (n : ℕ) → length (wordBytes 4 n) ≡ 4
 unfolding wordBytes
 four-bytes n = refl
 
-counts-length : (k : ℕ) (t : List ℕ) → length (countsTo k t) ≡ 4 * k
+pub counts-length : (k : ℕ) (t : List ℕ) → length (countsTo k t) ≡ 4 * k
 counts-length k t = flat-length (λ r. wordBytes 4 (tickCount (motorOf r))) 64 4 k (drop 64 t) (λ r. four-bytes (tickCount (motorOf r)))
 
 -- No count leaves the buffer as it was.

@@ -1,3 +1,4 @@
 pub mod CallLaws
 pub mod Refusals
 pub mod OneOutcome
+pub mod RestLaws

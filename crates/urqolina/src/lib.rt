@@ -18,7 +18,7 @@ ghost use mathlib.Core.Bool.{true};
 ghost use Prim.Native.Nat.{_≤_};
 ghost use lib.ListN.{length};
 ghost use Rattle.drive.specs.Drives.{switchRead};
-ghost use Rattle.table.specs.Layout.{tableSize, motorAt, withMotor};
+ghost use Rattle.table.specs.Layout.{tableSize, motorAt, sealed, withMotor};
 ghost use Rattle.urqolina.specs.Calls.{freshCall, commandCall, readingCall, tickCall};
 
 // The numbers that need no line: done, a wrong size or number, and a table that is not sound.
@@ -66,7 +66,7 @@ pub extern "C" fn urqolina_command(table: &mut [u8], line: &[u8], reply: &mut [u
 
 // Puts a switch reading into a channel's record.
 fn read_channel(t: &mut [u8], channel: u8, contacts: u8)
-    requires { ⌜ (length (now t) ≡ tableSize) × (channel ≤ 15) ⌝ }
+    requires { ⌜ (length (now t) ≡ tableSize) × (channel ≤ 15) × (sealed (now t) ≡ now t) ⌝ }
     ensures { λ _. ⌜ now (t .exit) ≡ withMotor (now (t .entry)) channel (switchRead (motorAt (now (t .entry)) channel) contacts) ⌝ }
 {
     let m = motor_at(t, channel);

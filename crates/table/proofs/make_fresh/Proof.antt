@@ -4,8 +4,8 @@ use Rattle.table.proofs.LoopLaws.{freshTo, fresh-all}
 use Rattle.table.proofs.make_fresh.Statement.{statement}
 use Rattle.table.proofs.make_fresh.Tie as tie
 
-zero-head-requires : tie.Need-zero-head-requires
-zero-head-requires c κs = search needs
+zero-front-requires : tie.Need-zero-front-requires
+zero-front-requires c κs = search needs
 
 fresh-records-requires : tie.Need-fresh-records-requires
 fresh-records-requires c κs = search needs
@@ -17,8 +17,8 @@ returns : tie.Need-returns
 unfolding freshTo
 returns c =
     let t = c .before .before .before .before .before .before .before .before .before .args .t .now in
-    rw (c .before .before .fresh-records .ensures, c .before .before .before .before .before .before .zero-head .ensures) (fresh-all t (search needs))
+    rw (c .before .before .fresh-records .ensures, c .before .before .before .before .before .before .zero-front .ensures) (fresh-all t (search needs))
 
 pub make-fresh-spec : {M : Type 1} → statement M
 make-fresh-spec =
-    tie.close (tie.spec zero-head-requires fresh-records-requires same-length returns)
+    tie.close (tie.spec zero-front-requires fresh-records-requires same-length returns)

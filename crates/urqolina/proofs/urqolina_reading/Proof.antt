@@ -5,7 +5,7 @@ use Rattle.urqolina.proofs.CallLaws.{sizes-channel}
 use Rattle.urqolina.proofs.Refusals.{reading-size, reading-unsound}
 use Rattle.drive.specs.Numbers.{numberOf}
 use Rattle.urqolina.specs.Calls.{readingCall}
-use Rattle.table.proofs.TableLaws.{sound-length}
+use Rattle.table.proofs.TableLaws.{sound-length, sound-sealed}
 use borrow.Author.Needs.{needs}
 use Rattle.urqolina.proofs.urqolina_reading.Statement.{statement}
 use Rattle.urqolina.proofs.urqolina_reading.Tie as tie
@@ -20,7 +20,11 @@ cast-read-channel-2 : tie.Need-cast-read-channel-2
 cast-read-channel-2 c = omega (arith, sizes-channel (c .before .before .before .before .before .before .args .table .now) (c .before .before .before .before .before .before .args .channel) (c .before .before .before .before .before .before .args .contacts) (c .before .before .before .before .if1 .taken) .1)
 
 read-channel-requires : tie.Need-read-channel-requires
-read-channel-requires c κs = (sound-length _ (sym (c .before .before .sound-table .ensures) ∙ c .before .if2 .taken), sizes-channel (c .before .before .before .before .before .before .args .table .now) (c .before .before .before .before .before .before .args .channel) (c .before .before .before .before .before .before .args .contacts) (c .before .before .before .before .if1 .taken) .0)
+read-channel-requires c κs =
+    let k = c .before .before .before .before .before in
+    let a = k .before .args in
+    let sound = sym (c .before .before .sound-table .ensures) ∙ c .before .if2 .taken in
+    (sound-length _ sound, sizes-channel (a .table .now) (a .channel) (a .contacts) (c .before .before .before .before .if1 .taken) .0, sound-sealed _ sound (λ j. k .slice-known .given j .fits))
 
 same-length : tie.Need-same-length
 same-length c = search needs

@@ -1,19 +1,30 @@
 -- `urqolina::ticking::drive_channel` meets its contract. Assumes nothing.
 use mathlib.Core.Path.{_≡_}
-use Rattle.digits.specs.Bytes.{put}
-use Rattle.record.specs.Progress.{progressed}
-use Rattle.pulses.specs.Ticks.{tickMotor, tickCount}
-use Rattle.pulses.proofs.TickRecord.{tick-written}
-use Rattle.table.specs.Layout.{recordStart, recordAt, withMotor}
+use mathlib.Core.Bool.{true}
 use borrow.Author.Needs.{needs}
+use Rattle.motor.specs.Sound.{busy}
+use Rattle.motor.proofs.MovingLaws.{moving-busy}
+use Rattle.motor.proofs.RecordLaws.{sound-written-read}
+use Rattle.pulses.specs.Ticks.{tickCount}
+use Rattle.pulses.proofs.TickRecord.{tick-written}
+use Rattle.pulses.proofs.TickSound.{tick-sound}
+use Rattle.table.specs.Layout.{motorAt}
 use Rattle.urqolina.proofs.ticking.drive_channel.Statement.{statement}
 use Rattle.urqolina.proofs.ticking.drive_channel.Tie as tie
 
 tick-requires : tie.Need-tick-requires
 tick-requires c κs = search needs
 
-put-progress-requires : tie.Need-put-progress-requires
-put-progress-requires c κs = search needs
+put-ticked-requires : tie.Need-put-ticked-requires
+unfolding motorAt
+put-ticked-requires c κs =
+    let k = c .before .before in
+    let a = k .before .before .before in
+    let t = a .args .t .now in
+    let m = a .args .m in
+    let held : motorAt t (a .args .c) ≡ m = rw (a .pre .1 .0) (sound-written-read m (a .pre .1 .2)) in
+    let on : busy (motorAt t (a .args .c)) ≡ true = rw held (moving-busy m (a .pre .1 .1)) in
+    ((a .pre .0 .0, a .pre .0 .2, a .pre .0 .3, on), (rw (k .tick .ensures, a .pre .1 .0) (tick-written m (a .pre .1 .1)), rw (k .tick .ensures) (tick-sound m (a .pre .1 .2))))
 
 mul-put-long : tie.Need-mul-put-long
 mul-put-long c = search needs
@@ -31,16 +42,11 @@ same-length-2 : tie.Need-same-length-2
 same-length-2 c = search needs
 
 returns : tie.Need-returns
-unfolding tickCount withMotor
+unfolding tickCount
 returns c =
     let p = c .before .before .before .before .before .before .before in
-    let k = p .before .before .before in
-    let a = k .before .before .before in
-    let t = a .args .t .now in
-    let after = tickMotor (a .args .m) .motor in
-    let written : put t (recordStart (a .args .c)) (progressed (recordAt t (a .args .c)) after) ≡ withMotor t (a .args .c) after =
-    rw (a .pre .1 .0) (rw (tick-written (a .args .m) (a .pre .1 .1))) in (
-      rw (p .put-progress .ensures, k .tick .ensures) written,
+    let k = p .before .before .before in (
+      rw (p .put-ticked .ensures, k .tick .ensures),
       rw (c .before .before .put-long .ensures, c .before .before .before .count-of .ensures, k .tick .ensures),
     )
 
@@ -49,7 +55,7 @@ drive-channel-spec =
     tie.close
     (tie.spec
     tick-requires
-    put-progress-requires
+    put-ticked-requires
     mul-put-long
     count-of-requires
     put-long-requires
