@@ -4,12 +4,12 @@ ghost use mathlib.Core.Path.{_≡_};
 ghost use Prim.Native.Nat.{_≤_};
 ghost use Rattle.digits.specs.Words.{isSet, marked};
 
-// Whether a channel is in a set.
+// Whether a channel is in a set. The number is widened first: of 32 bits the processor tests one by itself.
 pub fn has(set: u16, k: u8) -> bool
     requires { ⌜ k ≤ 15 ⌝ }
     ensures { λ r. ⌜ r ≡ isSet k set ⌝ }
 {
-    (set >> k) % 2 == 1
+    ((set as u32) >> k) % 2 == 1
 }
 
 // The set with a channel in it or not, by a test, and the others as they were.

@@ -27,7 +27,7 @@ way-same g h m e = rw e
 
 -- Byte 32 is allowed just where it tells a direction, and one that is held under pause alone.
 allowed-way : (paused : Bool) (n : ℕ) → wayAllowed paused n ≡ true → (goingOf n ≤ 2) × ((paused || not (heldOf n)) ≡ true)
-allowed-way paused n e = go (leb n 2) refl paused e
+allowed-way paused n e = go (leb n 2) refl paused (and-r (leb 1 n) _ e)
   where
     held : 2 < n → leb n 4 ≡ true → goingOf n ≤ 2
     held l h = three (eqb n 3) refl
@@ -43,13 +43,14 @@ allowed-way paused n e = go (leb n 2) refl paused e
     go false l true h = (held (leb-false n 2 l) h, refl)
     go false l false h = absurd (false≢true h)
 
-way-allowed : (paused : Bool) (n : ℕ) → goingOf n ≤ 2 → (paused || not (heldOf n)) ≡ true → wayAllowed paused n ≡ true
+way-allowed : (paused : Bool) (n : ℕ) → goingOf n ≤ 2 → (paused || not (heldOf n)) ≡ true → (goingOf n ≡ 0 → ⊥) → wayAllowed paused n ≡ true
 way-allowed paused n = go (eqb n 3) refl (eqb n 4) refl
   where
-    go : (a : Bool) → eqb n 3 ≡ a → (b : Bool) → eqb n 4 ≡ b → cond a 1 (cond b 2 n) ≤ 2 → (paused || not (a || b)) ≡ true → wayAllowed paused n ≡ true
-    go true a b f l h = let p : paused ≡ true = rw (or-false paused) at h in rw (eqb-true n 3 a, p)
-    go false a true b l h = let p : paused ≡ true = rw (or-false paused) at h in rw (eqb-true n 4 b, p)
-    go false a false b l h = rw (le-leb n 2 l)
+    go : (a : Bool) → eqb n 3 ≡ a → (b : Bool) → eqb n 4 ≡ b → cond a 1 (cond b 2 n) ≤ 2 → (paused || not (a || b)) ≡ true
+        → (cond a 1 (cond b 2 n) ≡ 0 → ⊥) → wayAllowed paused n ≡ true
+    go true a b f l h d = let p : paused ≡ true = rw (or-false paused) at h in rw (eqb-true n 3 a, p)
+    go false a true b l h d = let p : paused ≡ true = rw (or-false paused) at h in rw (eqb-true n 4 b, p)
+    go false a false b l h d = rw (le-leb 1 n (omega (arith, d)), le-leb n 2 l)
 
 -- The aim of a drive, its kind and its target.
 aim-good : (g p : ℕ) (d : Drive) → cond (eqb (d .kind) 1) (leb 1 (ahead g p (d .target))) (eqb (d .target) origin) ≡ true
@@ -94,7 +95,7 @@ sound-judged paused b n drives s h z =
     let zeros : word (part b 45 3) ≡ 0 = eqb-true (word (part b 45 3)) 0 (word-zero (part b 45 3) ∙ z) in
     let one : byteAt b 44 ≡ 1 = sym (byte-44 b) ∙ w .read in
     let first : eqb (longAt b 44) 1 ≡ true = eq-eqb (longAt b 44) 1 (omega (arith, word-44 b n, zeros, one)) in
-    let way : wayAllowed paused (byteAt b 32) ≡ true = way-allowed paused (byteAt b 32) (rw (byte-32 paused b .0) at (k .going)) (sym (byte-32 paused b .1) ∙ h) in
+    let way : wayAllowed paused (byteAt b 32) ≡ true = way-allowed paused (byteAt b 32) (rw (byte-32 paused b .0) at (k .going)) (sym (byte-32 paused b .1) ∙ h) (eqb-false (goingOf (byteAt b 32)) 0 (not-true _ (rw (byte-32 paused b .0) at drives))) in
     let speeds : (isSpeed (m .speeds .high) && isSpeed (m .speeds .middle) && isSpeed (m .speeds .low)) ≡ true = and-l _ _ (r .speeds) in
     let selected : leb (m .speeds .selected) 2 ≡ true = and-r (isSpeed (m .speeds .high) && isSpeed (m .speeds .middle) && isSpeed (m .speeds .low)) _ (r .speeds) in
     let aim = aim-good (m .drive .going) (m .place) (m .drive) (w .aim) (k .kind) (target-position (m .drive) (r .drive)) in

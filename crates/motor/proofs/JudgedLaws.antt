@@ -1,5 +1,5 @@
 -- The order in which the code judges a record, and soundness. Assumes nothing.
-use mathlib.Core.Path.{_≡_, refl}
+use mathlib.Core.Path.{_≡_, refl, sym}
 use mathlib.Core.List.{List}
 use mathlib.Core.Bool.{Bool, true, false, _&&_, not, cond, and-true, and-false}
 use Prim.Native.Nat.{ℕ}
@@ -12,7 +12,7 @@ use Rattle.digits.specs.Words.{word}
 use Rattle.digits.proofs.WordLaws.{word-zero, zero-part}
 use Rattle.record.specs.Record.{byteAt, longAt, wiringOf, goingOf, motorOf}
 use Rattle.motor.specs.Sound.{contactsRight, settingsInRange, endFlagsInRange, busy, soundMotor, soundRecord, heldRight, soundUnder}
-use Rattle.motor.specs.Judged.{drivingJudged, listedJudged, standingJudged, soundListed}
+use Rattle.motor.specs.Judged.{drivingJudged, standingJudged, soundListed}
 use Rattle.motor.proofs.SoundLaws.{and-l, and-r, both-ways}
 use Rattle.motor.proofs.StandingLaws.{still-sound}
 use Rattle.motor.proofs.DrivingLaws.{sound-judged, judged-sound}
@@ -93,9 +93,9 @@ unlisted-judged paused b n bytes t = go (eqb (byteAt b 32) 0) refl
     go true e = let z = eqb-true (byteAt b 32) 0 e in rw (still-byte b z, and-true) (standing-judged paused b n bytes t z)
     go false e = rw (busy-byte b (eqb-false (byteAt b 32) 0 e), and-false, word-zero (part b 32 8), zero-part b 32 1 7, e)
 
-pub listed-judged : (paused : Bool) (b : List ℕ) → length b ≡ 64 → allZero (part b 48 16) ≡ true → soundListed paused true b ≡ listedJudged paused b
+pub listed-judged : (paused : Bool) (b : List ℕ) → length b ≡ 64 → allZero (part b 48 16) ≡ true → soundListed paused true b ≡ drivingJudged paused b
 listed-judged paused b n t = go (eqb (byteAt b 32) 0) refl
   where
-    go : (f : Bool) → eqb (byteAt b 32) 0 ≡ f → (soundUnder paused b && busy (motorOf b)) ≡ (not f && drivingJudged paused b)
-    go true e = rw (still-byte b (eqb-true (byteAt b 32) 0 e), and-false)
+    go : (f : Bool) → eqb (byteAt b 32) 0 ≡ f → (soundUnder paused b && busy (motorOf b)) ≡ drivingJudged paused b
+    go true e = let z = eqb-true (byteAt b 32) 0 e in rw (still-byte b z, and-false, z) (sym (and-false (eqb (longAt b 44) 1)))
     go false e = let f = eqb-false (byteAt b 32) 0 e in rw (busy-byte b f, and-true) (driving-judged paused b n t f)

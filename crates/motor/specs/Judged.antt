@@ -37,18 +37,14 @@ abbrev pub drivesRight : Motor → Bool
 drivesRight m =
     eqb (m .ended) 0 && eqb (m .setup .a) 1 && isSpeed (m .drive .speed) && leb (m .drive .fraction) 999 && free (m .drive .going) m
 
--- byte 32: 3 and 4, held drives, under pause alone
+-- byte 32 of a drive: 3 and 4, held drives, under pause alone
 abbrev pub wayAllowed : Bool → ℕ → Bool
-wayAllowed paused n = leb n 2 || (paused && leb n 4)
+wayAllowed paused n = leb 1 n && (leb n 2 || (paused && leb n 4))
 
 -- a record with a drive, bytes 0 to 47
 abbrev pub drivingJudged : Bool → List ℕ → Bool
 drivingJudged paused b =
     eqb (longAt b 44) 1 && (wayAllowed paused (byteAt b 32) && (drivesRight (motorOf b) && fieldsRight (motorOf b)))
-
--- a record that the busy set has, bytes 0 to 47
-abbrev pub listedJudged : Bool → List ℕ → Bool
-listedJudged paused b = not (eqb (byteAt b 32) 0) && drivingJudged paused b
 
 -- bytes 40 to 47 of a record without a drive: no target, the contacts, and zeros
 abbrev pub told : List ℕ → Bool

@@ -39,7 +39,7 @@ ghost use Rattle.record.specs.Record.{motorOf};
 ghost use Rattle.motor.specs.Switches.{switchOf, unread, active, blocked, rangeEnd, edge, room};
 ghost use Rattle.motor.specs.Sound.{isSpeed, limitsInRange, wiringInRange, setupInRange, settingsInRange, endFlagsInRange};
 ghost use Rattle.motor.specs.Sound.{busy, moving};
-ghost use Rattle.motor.specs.Judged.{fieldsRight, clearAhead, aimed, free, drivesRight, wayAllowed, drivingJudged, listedJudged, told, standingJudged, soundListed};
+ghost use Rattle.motor.specs.Judged.{fieldsRight, clearAhead, aimed, free, drivesRight, wayAllowed, drivingJudged, told, standingJudged, soundListed};
 
 // The switch that a direction runs into, by its bit: 0 CW, 1 CCW.
 fn switch_of(going: u8) -> u8
@@ -332,11 +332,11 @@ pub fn is_moving(m: Motor) -> bool
     if m.drive.held { false } else { is_busy(m) }
 }
 
-// Whether byte 32 is one that a sound table may hold: 3 and 4, held drives, under pause alone.
+// Whether byte 32 is a drive's in a sound table: 3 and 4, held drives, under pause alone.
 fn way_right(paused: bool, n: u8) -> bool
     ensures { λ r. ⌜ r ≡ wayAllowed paused n ⌝ }
 {
-    (n as u32) <= choose(paused, 4, 2)
+    (1 <= n) & ((n as u32) <= choose(paused, 4, 2))
 }
 
 // Whether a record with a drive is sound in a table, its bytes from 48 on aside. Byte 44 is 1, and 45 to 47 are zero, just where
@@ -405,18 +405,6 @@ fn tail_zero(b: &[u8]) -> bool
     }
 }
 
-// Whether a record that the busy set has is sound, its bytes from 48 on aside: it has a drive.
-fn listed_sound(paused: bool, b: &[u8]) -> bool
-    requires { ⌜ length (now b) ≡ 64 ⌝ }
-    ensures { λ r. ⌜ r ≡ listedJudged paused (now (b .entry)) ⌝ }
-{
-    if byte_at(b, 32) == 0 {
-        false
-    } else {
-        driving_sound(paused, b)
-    }
-}
-
 // Whether 64 bytes are a sound record of a table. What the busy set says of it is asked for, and not byte 32: where they differ, the
 // rules for the one or the other are not kept.
 fn sound_bytes(paused: bool, listed: bool, b: &[u8]) -> bool
@@ -425,7 +413,7 @@ fn sound_bytes(paused: bool, listed: bool, b: &[u8]) -> bool
 {
     if tail_zero(b) {
         if listed {
-            listed_sound(paused, b)
+            driving_sound(paused, b)
         } else {
             standing_sound(b)
         }

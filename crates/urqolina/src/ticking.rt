@@ -86,7 +86,7 @@ pub fn tick_all(t: &mut [u8], pulses: &mut [u8])
 {
     let h = read_head(t);
     zero_front(pulses);
-    let mut left = h.busy;
+    let mut left = h.busy as u32;
     let mut c: u8 = 0;
     while left != 0 {
         tick_listed(t, pulses, left % 2 == 1, c);

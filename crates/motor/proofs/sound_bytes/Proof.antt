@@ -10,8 +10,8 @@ use Rattle.motor.proofs.sound_bytes.Tie as tie
 tail-zero-requires : tie.Need-tail-zero-requires
 tail-zero-requires c κs = search needs
 
-listed-sound-requires : tie.Need-listed-sound-requires
-listed-sound-requires c κs = search needs
+driving-sound-requires : tie.Need-driving-sound-requires
+driving-sound-requires c κs = search needs
 
 standing-sound-requires : tie.Need-standing-sound-requires
 standing-sound-requires c κs = search needs
@@ -20,7 +20,7 @@ returns : tie.Need-returns
 returns c =
     let e = c .before .before .before .before .before in
     let tail = sym (c .before .before .before .tail-zero .ensures) ∙ c .before .before .if1 .taken in
-    rw (c .listed-sound .ensures, c .before .if2 .taken) (sym (listed-judged (e .args .paused) (e .args .b .now) (e .pre) tail))
+    rw (c .driving-sound .ensures, c .before .if2 .taken) (sym (listed-judged (e .args .paused) (e .args .b .now) (e .pre) tail))
 
 returns-2 : tie.Need-returns-2
 returns-2 c =
@@ -35,4 +35,4 @@ returns-3 c =
     sym (tail-judged (e .args .paused) (e .args .listed) (e .args .b .now) (e .pre) (sym (c .before .tail-zero .ensures) ∙ c .if1 .left))
 
 pub sound-bytes-spec : {M : Type 1} → statement M
-sound-bytes-spec = tie.close (tie.spec tail-zero-requires listed-sound-requires standing-sound-requires returns returns-2 returns-3)
+sound-bytes-spec = tie.close (tie.spec tail-zero-requires driving-sound-requires standing-sound-requires returns returns-2 returns-3)

@@ -23,7 +23,7 @@ choose-requires : tie.Need-choose-requires
 choose-requires c κs = search needs
 
 returns : tie.Need-returns
-returns c = let a = c .before .args in rw (c .choose .ensures) (most (a .paused) (a .n))
+returns c = let a = c .before .args in rw (c .choose .ensures, most (a .paused) (a .n))
 
 pub way-right-spec : {M : Type 1} → statement M
 way-right-spec = tie.close (tie.spec choose-requires returns)
