@@ -3,6 +3,7 @@
 use mathlib.Core.Path.{_≡_, refl, sym, _∙_}
 use mathlib.Core.List.{List}
 use mathlib.Core.Bool.{Bool, true, false, _&&_, _||_, not, cond, false≢true, and-true, and-false}
+use mathlib.Core.Logic.{inl}
 use Prim.Native.Nat.{ℕ, _≤_}
 use native.Mathlib.Omega.{arith}
 use lib.ListN.{length}
@@ -31,12 +32,13 @@ use Rattle.orders.specs.Values.{needsRemote, valueInRange}
 use Rattle.orders.specs.Settings.{directionOf, courseOf}
 use Rattle.digits.specs.Places.{origin}
 use Rattle.digits.specs.Words.{withoutBit}
-use Rattle.table.specs.Layout.{tableSize, headOf, withHead, withMode, withReply, withErrors, withPause, motorAt, withMotor, withMotors}
+use Rattle.table.specs.Layout.{tableSize, headOf, withHead, withMode, withReply, withErrors, withPause, motorAt, busySet, withMotor, withMotors}
 use Rattle.table.specs.declared.head.Head.{Head}
 use Rattle.table.specs.Sound.{soundTable}
-use Rattle.table.proofs.TableLaws.{sound-length, sound-motor-at, sound-held-at}
+use Rattle.table.proofs.SealLaws.{same-set}
+use Rattle.table.proofs.TableLaws.{sound-length, sound-motor-at, sound-held-at, sound-set}
 use Rattle.table.proofs.HeadLaws.{same-head, head-back, head-motor, head-sound, head-sound-on, sound-range}
-use Rattle.table.proofs.KeptLaws.{written-motor, head-kept, motor-kept, motor-sound, motors-sound}
+use Rattle.table.proofs.KeptLaws.{written-motor, head-before, motor-kept, motor-sound, motors-sound}
 use Rattle.commands.specs.Judging.{meetsBusy, judgeMotor, judge}
 use Rattle.commands.specs.Changing.{headChanged, motorsFreed, changed, flagged}
 use Rattle.commands.proofs.HeadOrderLaws.{flagged-range, changed-range}
@@ -45,9 +47,8 @@ use Rattle.obeying.specs.Taking.{refused, obeyed}
 use Rattle.urqolina.specs.Calls.{commandCall, readingCall, tickCall}
 use Rattle.laws.specs.Sequences.{urqolina, Call, command, reading, tick, after}
 use Rattle.laws.specs.Deeds.{verdict, Deed, starts, stops, speeds, sets, reads, ticks, pauses, rests, deedIf, headDeed, deedOf, deedTaken, deed}
-use Rattle.laws.proofs.PartLaws.{motors-motor}
+use Rattle.laws.proofs.PartLaws.{motors-motor, motors-beside}
 use Rattle.laws.proofs.CallWays.{sound-ways}
-use Rattle.laws.proofs.NeighbourLaws.{motors-head}
 use Rattle.laws.proofs.DeedLaws.{performed, pausedIn, pausedBy, Fits, fits-start, fits-stop, fits-speed, fits-set, fits-read, fits-tick, fits-pause, fits-rest, performed-sound, performed-right, performed-free}
 
 -- what an order has passed when it is accepted
@@ -134,8 +135,8 @@ module _ (t : List ℕ) (x : ℕ) (d : Deed) (quiet : (p : Bool) → pausedBy p 
   unfolding n
   sound-after = performed-sound (pausedIn t) (motorAt t x) d (sound-motor-at t x s h) f
 
-  head-same : headOf (withMotor t x n) ≡ headOf t
-  head-same = same-head t (withMotor t x n) (head-kept t x n (sound-length t s) h)
+  pause-same : headOf (withMotor t x n) .pause ≡ headOf t .pause
+  pause-same = rw (same-head t (withMotor t x n) (head-before t x n (sound-length t s) h))
 
   writes : (c : ℕ) → Follows t (withMotor t x (performed (pausedIn t) (motorAt t x) d)) c (deedIf (eqb x c) d)
   unfolding n
@@ -144,8 +145,8 @@ module _ (t : List ℕ) (x : ℕ) (d : Deed) (quiet : (p : Bool) → pausedBy p 
       go : (b : Bool) → eqb x c ≡ b → Follows t (withMotor t x n) c (deedIf b d)
       go true e =
           rw (← eqb-true x c e)
-          (record { motor = written-motor t x n (sound-length t s) h sound-after; fits = f; pause = rw (head-same) (sym (quiet (pausedIn t))) })
-      go false e = idle t (withMotor t x n) c (motor-kept t x n (sound-length t s) h c (λ q. eqb-false x c e (sym q))) (rw head-same)
+          (record { motor = written-motor t x n (sound-length t s) h sound-after; fits = f; pause = rw (pause-same) (sym (quiet (pausedIn t))) })
+      go false e = idle t (withMotor t x n) c (motor-kept t x n (sound-length t s) h c (λ q. eqb-false x c e (sym q))) pause-same
 
   -- The table stays sound.
   writes-sound : soundTable (withMotor t x (performed (pausedIn t) (motorAt t x) d)) ≡ true
@@ -157,8 +158,8 @@ module _ (t : List ℕ) (d : Deed) (s : soundTable t ≡ true) (f : (m : Motor) 
   abbrev each : Motor → Motor
   each m = performed false m d
 
-  each-head : headOf (withMotors t each) ≡ headOf t
-  each-head = same-head t (withMotors t each) (λ i n h. motors-head t each i n s h)
+  each-pause : headOf (withMotors t each) .pause ≡ headOf t .pause
+  each-pause = rw (same-head t (withMotors t each) (λ i n h. motors-beside t each (sound-length t s) i n (inl h)))
 
   each-motor : (c : ℕ) → c ≤ 15 → motorAt (withMotors t each) c ≡ each (motorAt t c)
   each-motor c h = motors-motor t each c (sound-length t s) h (performed-sound false (motorAt t c) d (sound-motor-at t c s h) (f (motorAt t c)))
@@ -205,9 +206,17 @@ module _ (t : List ℕ) (k : ℕ) (s : soundTable t ≡ true) where
       go true e = rw (released-drive (motorAt t c)) (or-true (eqb k 1))
       go false e = let on : k ≡ 1 = omega (arith, leb-true k 1 made, eqb-false k 0 e) in rw on
 
+  -- A release leaves the busy set.
+  freed-set : busySet freed ≡ busySet t
+  freed-set = same-set t freed (λ c h. rw (freed-motor c h) (go (eqb k 0) (motorAt t c)))
+    where
+      go : (b : Bool) (m : Motor) → busy (cond b (released m) m) ≡ busy m
+      go true m = rw (released-drive m)
+      go false m = refl
+
   pause-sound : leb k 1 ≡ true → soundTable (withHead freed (withPause (headOf t) k)) ≡ true
   unfolding headChanged
-  pause-sound made = head-sound freed (withPause (headOf t) k) freed-sound (changed-range (headOf t) (Pause k) (sound-range t s) made) (freed-right made)
+  pause-sound made = head-sound freed (withPause (headOf t) k) freed-sound (changed-range (headOf t) (Pause k) (sound-range t s) made) (freed-right made) (sound-set t s ∙ sym freed-set)
 
 -- An accepted order of the head: each channel follows it.
 head-follows : (t : List ℕ) (o : HeadOrder) (c : ℕ) → soundTable t ≡ true → c ≤ 15 → Follows t (withHead (motorsFreed t o) (headChanged (headOf t) o)) c (headDeed o)
@@ -221,10 +230,10 @@ head-follows t (Pause k) c s h = pause-follows t k s c h
 -- It leaves a sound table.
 head-order-sound : (t : List ℕ) (o : HeadOrder) → soundTable t ≡ true → headMade o ≡ true → soundTable (withHead (motorsFreed t o) (headChanged (headOf t) o)) ≡ true
 unfolding headChanged
-head-order-sound t (Mode k) s m = head-sound-on t _ s (changed-range (headOf t) (Mode k) (sound-range t s) m) refl
-head-order-sound t (AllReply k) s m = head-sound-on t _ s (changed-range (headOf t) (AllReply k) (sound-range t s) m) refl
-head-order-sound t ClearErrors s m = head-sound-on t _ s (changed-range (headOf t) ClearErrors (sound-range t s) m) refl
-head-order-sound t (ClearError e) s m = head-sound-on t _ s (changed-range (headOf t) (ClearError e) (sound-range t s) m) refl
+head-order-sound t (Mode k) s m = head-sound-on t _ s (changed-range (headOf t) (Mode k) (sound-range t s) m) refl refl
+head-order-sound t (AllReply k) s m = head-sound-on t _ s (changed-range (headOf t) (AllReply k) (sound-range t s) m) refl refl
+head-order-sound t ClearErrors s m = head-sound-on t _ s (changed-range (headOf t) ClearErrors (sound-range t s) m) refl refl
+head-order-sound t (ClearError e) s m = head-sound-on t _ s (changed-range (headOf t) (ClearError e) (sound-range t s) m) refl refl
 head-order-sound t (Pause k) s m = pause-sound t k s m
 
 -- An accepted order: each channel follows it.
@@ -235,7 +244,7 @@ order-follows t (Go x s) c k h m e = writes t x (starts s) (λ p. refl) k (named
 order-follows t (Stop x flags) c k h m e = writes t x (stops flags) (λ p. refl) k (named-channel (Stop x flags) m) (stop-fits t x flags m) c
 order-follows t (StopAll flags) c k h m e =
     let f = fits-stop flags (flags-in-range flags m) in
-    record { motor = each-motor t (stops flags) k (λ n. fits-stop flags (flags-in-range flags m)) c h; fits = f; pause = rw (each-head t (stops flags) k (λ n. fits-stop flags (flags-in-range flags m))) }
+    record { motor = each-motor t (stops flags) k (λ n. fits-stop flags (flags-in-range flags m)) c h; fits = f; pause = rw (each-pause t (stops flags) k (λ n. fits-stop flags (flags-in-range flags m))) }
 order-follows t (ChangeSpeed x v) c k h m e = writes t x (speeds v) (λ p. refl) k (named-channel (ChangeSpeed x v) m) (speed-fits t x v e) c
 order-follows t (Set x s) c k h m e = writes t x (sets s) (λ p. refl) k (named-channel (Set x s) m) (set-fits t x s m e) c
 order-follows t (Ask x q) c k h m e = idle t t c refl refl
@@ -245,7 +254,7 @@ order-follows t (ForHead o) c k h m e = head-follows t o c k h
 -- A refusal leaves a sound table, and each motor.
 pub flagged-sound : (t : List ℕ) (n : ℕ) → soundTable t ≡ true → soundTable (flagged t n) ≡ true
 unfolding flagged
-flagged-sound t n s = head-sound-on t _ s (flagged-range (headOf t) n (sound-range t s)) refl
+flagged-sound t n s = head-sound-on t _ s (flagged-range (headOf t) n (sound-range t s)) refl refl
 
 flagged-idle : (t : List ℕ) (n c : ℕ) → soundTable t ≡ true → Follows t (flagged t n) c rests
 unfolding flagged
@@ -310,7 +319,7 @@ tick-next t p s = go (eqb (length p) 64) refl
     go : (b : Bool) → eqb (length p) 64 ≡ b → Next t (tickCall t p .table) (λ c. deedIf b ticks)
     go true e =
         rw (eq-eqb (length t) tableSize (sound-length t s), e, s)
-        (record { sound = each-sound t ticks s (λ m. fits-tick); follows = λ c h. record { motor = each-motor t ticks s (λ m. fits-tick) c h; fits = fits-tick; pause = rw (each-head t ticks s (λ m. fits-tick)) } })
+        (record { sound = each-sound t ticks s (λ m. fits-tick); follows = λ c h. record { motor = each-motor t ticks s (λ m. fits-tick) c h; fits = fits-tick; pause = rw (each-pause t ticks s (λ m. fits-tick)) } })
     go false e = rw (eq-eqb (length t) tableSize (sound-length t s), e) (nothing-next t s)
 
 -- After any call on a sound table the table is sound, and each channel follows the call.

@@ -1,20 +1,23 @@
 -- The bytes that a call leaves as they were, for every table and all inputs. Assumes nothing.
-use mathlib.Core.Path.{_≡_, refl, sym, _∙_}
-use mathlib.Core.List.{List, [], _∷_, append-nil, flatMap}
+use mathlib.Core.Path.{_≡_, refl, sym, ap, _∙_}
+use mathlib.Core.List.{List, [], _∷_}
+use mathlib.Core.Logic.{inl, inr}
 use mathlib.Core.Bool.{Bool, true, false, _&&_, cond, false≢true}
-use Prim.Native.Nat.{ℕ, _+_, _%_, _≤_}
+use Prim.Native.Nat.{ℕ, _%_, _≤_}
 use native.Mathlib.Omega.{arith}
-use lib.ListN.{length, drop, drop-of-length-le}
 use lib.Dec.{eqb}
 use borrow.Author.Tests.{ne-eqb, eqb-true, eqb-false}
 use Rattle.digits.specs.Bytes.{AllBytes, part, put}
 use Rattle.record.specs.declared.Motor.{Motor}
-use Rattle.record.specs.Record.{motorOf, recordOf}
+use Rattle.record.specs.Record.{recordOf}
 use Rattle.motor.specs.Sound.{busy, moving}
-use Rattle.drive.specs.Drives.{released, stopped}
+use Rattle.drive.specs.Drives.{lsend, released, endedWith, stopped, speedChanged, contacted, switchRead}
 use Rattle.pulses.specs.Ticks.{tickMotor}
 use Rattle.pulses.proofs.Laws.{stopped-given-none}
-use Rattle.drive.proofs.Laws.{stopped-again, released-as, released-free}
+use Rattle.drive.proofs.Laws.{stopped-again, released-as, released-free, released-drive}
+use Rattle.motor.specs.Switches.{blocked}
+use Rattle.motor.proofs.MovingLaws.{moving-busy}
+use Rattle.line.specs.declared.Start.{Start}
 use Rattle.line.specs.declared.HeadOrder.{HeadOrder}
 use Rattle.line.specs.declared.HeadOrder.the-variants.{Mode, AllReply, ClearErrors, ClearError, Pause}
 use Rattle.line.specs.declared.Order.{Order}
@@ -25,26 +28,27 @@ use Rattle.line.specs.Forms.{orderOf}
 use Rattle.line.specs.Made.{orderMade}
 use Rattle.line.proofs.OrderLaws.{line-made}
 use Rattle.table.specs.declared.head.Head.{Head}
-use Rattle.table.specs.Layout.{headOf, withHead, recordAt, records, motorAt, withMotor, withMotors}
+use Rattle.table.specs.Layout.{headOf, withHead, recordAt, motorAt, withMotor, withMotors}
 use Rattle.table.specs.Sound.{soundTable}
-use Rattle.record.proofs.RoundTrip.{record-length}
 use Rattle.record.proofs.ProgressLaws.{way-written}
-use Rattle.table.proofs.PieceLaws.{flat-length, part-before}
-use Rattle.table.proofs.TableLaws.{sound-length, sound-record-at}
-use Rattle.table.proofs.KeptLaws.{written-record, head-kept, record-kept, read-back}
+use Rattle.table.proofs.TableLaws.{sound-length, sound-record-at, sound-set-at}
+use Rattle.table.proofs.KeptLaws.{written-record, record-kept, read-back}
 use Rattle.commands.specs.Changing.{headChanged, motorsFreed, changed, flagged}
 use Rattle.commands.proofs.HeadOrderLaws.{freed-length}
 use Rattle.commands.proofs.ChannelLaws.{named, named-channel}
 use Rattle.obeying.specs.Taking.{refused, obeyed}
-use Rattle.urqolina.specs.Calls.{commandCall, tickCall}
-use Rattle.laws.specs.Sequences.{urqolina, Call, command, reading, tick, after}
-use Rattle.laws.specs.Deeds.{Deed, starts, stops, speeds, sets, reads, ticks, pauses, rests, deedIf, names, headDeed, deedOf}
-use Rattle.laws.specs.Neighbours.{ofHead, Neighbours}
-use Rattle.laws.specs.Numbers.{isCommand}
-use Rattle.laws.proofs.PartLaws.{motors-record}
+use Rattle.urqolina.specs.Calls.{commandCall, readingCall, tickCall}
+use Rattle.laws.specs.Sequences.{urqolina, Call, command, reading, tick, After, after}
+use Rattle.laws.specs.Deeds.{Deed, starts, stops, speeds, sets, reads, ticks, pauses, rests, deedIf, names, headDeed, deedOf, deed}
+use Rattle.laws.specs.Neighbours.{ofHead, listed, HeadLeft, Cleared, Neighbours}
+use Rattle.laws.specs.Numbers.{isCommand, sizesRight}
+use Rattle.laws.proofs.PartLaws.{Beside, motor-beside, motors-beside, motors-record}
+use Rattle.laws.proofs.DeedLaws.{performed, pausedIn, set-drive}
+use Rattle.laws.proofs.Following.{next}
+use Rattle.laws.proofs.NumberLaws.{numbers}
 use Rattle.laws.proofs.CallWays.{silent-other, command-ways, reading-ways, tick-ways}
 use Rattle.obeying.proofs.NumberLaws.{refused-number}
-use Rattle.table.proofs.HeadLaws.{head-record}
+use Rattle.table.proofs.HeadLaws.{head-back, head-record}
 
 -- A sound record that is read and written back is the same bytes.
 written-back : (t : List ℕ) (d : ℕ) → soundTable t ≡ true → AllBytes t → d ≤ 15 → recordOf (motorAt t d) ≡ recordAt t d
@@ -83,7 +87,7 @@ head-left-record t o h d s q = head-record (motorsFreed t o) h (freed-length t o
     go (Pause k) q = off (eqb k 0) refl
       where
         off : (b : Bool) → eqb k 0 ≡ b → recordAt (cond b (withMotors t released) t) d ≡ recordAt t d
-        off true e = let same = q e in motors-record t released d (sound-length t s) (same .0) ∙ same .1
+        off true e = let same = q e in motors-record t released (sound-length t s) d (same .0) ∙ same .1
         off false e = refl
 
 -- An order of a line that is nothing to a channel, or leaves its motor, leaves its record.
@@ -92,7 +96,7 @@ changed-left : (t : List ℕ) (o : Order) (d : ℕ) → soundTable t ≡ true �
 unfolding changed deedOf named
 changed-left t (Go x a) d s made q = motor-left t x _ d s (named-channel (Go x a) made) (λ e. absurd (rw e at q))
 changed-left t (Stop x f) d s made q = motor-left t x _ d s (named-channel (Stop x f) made) (λ e. let same = rw e at q in rw (eqb-true x d e) (same .1))
-changed-left t (StopAll f) d s made q = motors-record t (stopped f) d (sound-length t s) (q .0) ∙ q .1
+changed-left t (StopAll f) d s made q = motors-record t (stopped f) (sound-length t s) d (q .0) ∙ q .1
 changed-left t (ChangeSpeed x v) d s made q = motor-left t x _ d s (named-channel (ChangeSpeed x v) made) (λ e. absurd (rw e at q))
 changed-left t (Set x a) d s made q = motor-left t x _ d s (named-channel (Set x a) made) (λ e. absurd (rw e at q))
 changed-left t (Ask x a) d s made q = refl
@@ -157,7 +161,7 @@ released-bytes : (t : List ℕ) (o : Order) (d : ℕ) → soundTable t ≡ true 
 unfolding changed
 released-bytes t o d s bytes h q =
     rw (off-order o d q)
-    (head-record (motorsFreed t (Pause 0)) _ (freed-length t (Pause 0) (sound-length t s)) d ∙ motors-record t released d (sound-length t s) h ∙ written)
+    (head-record (motorsFreed t (Pause 0)) _ (freed-length t (Pause 0) (sound-length t s)) d ∙ motors-record t released (sound-length t s) d h ∙ written)
   where
     written : recordOf (released (motorAt t d)) ≡ put (recordAt t d) 32 (motorAt t d .drive .going ∷ [])
     written = rw (released-as (motorAt t d), ← way-written (motorAt t d), written-back t d s bytes h)
@@ -175,7 +179,7 @@ let-go t line reply o d bytes h e q =
 unticked : (t p : List ℕ) (d : ℕ) → AllBytes t → d ≤ 15 → moving (motorAt t d) ≡ false → recordAt (tickCall t p .table) d ≡ recordAt t d
 unticked t p d bytes h stands =
     tick-ways (λ a. recordAt (a .table) d ≡ recordAt t d) t p (λ n i. refl)
-    (λ s. motors-record t (λ m. tickMotor m .motor) d (sound-length t s) h ∙ rw (stopped-given-none (motorAt t d) stands) (written-back t d s bytes h))
+    (λ s. motors-record t (λ m. tickMotor m .motor) (sound-length t s) d h ∙ rw (stopped-given-none (motorAt t d) stands) (written-back t d s bytes h))
 
 -- An order that names channel x is nothing to the others.
 elsewhere : (y x d : ℕ) (k : Deed) → eqb y x ≡ true → (d ≡ x → ⊥) → deedIf (eqb y d) k ≡ rests
@@ -192,45 +196,142 @@ named-rests (Ask y q) x d e ne = refl
 named-rests (AskHead q) x d e ne = refl
 named-rests (ForHead h) x d e ne = absurd (false≢true e)
 
--- Sixteen motors changed leave the head.
-pub motors-head : (t : List ℕ) (f : Motor → Motor) (i n : ℕ) → soundTable t ≡ true → i + n ≤ 64 → part (withMotors t f) i n ≡ part t i n
-unfolding withMotors put
-motors-head t f i n s h =
-    let e = sound-length t s in
-    let g : List ℕ → List ℕ = λ r. recordOf (f (motorOf r)) in
-    let all = flatMap g (records t) in
-    let size : length all ≡ 1024 = flat-length g 64 64 16 (drop 64 t) (λ r. record-length (f (motorOf r))) in
-    rw (size, drop-of-length-le t {i = 1088} (omega arith), append-nil) at (part-before t all 64 i n h (omega arith))
-
--- An accepted order of a line that is not of the head leaves the head.
-pub changed-head : (t : List ℕ) (o : Order) (i n : ℕ) → soundTable t ≡ true → orderMade o ≡ true → ofHead o ≡ false → i + n ≤ 64
+-- An accepted order of a line that is not of the head leaves the head beside the busy set.
+pub changed-head : (t : List ℕ) (o : Order) (i n : ℕ) → soundTable t ≡ true → orderMade o ≡ true → ofHead o ≡ false → Beside i n
     → part (changed t o) i n ≡ part t i n
 unfolding changed ofHead named
-changed-head t (Go x a) i n s made q h = head-kept t x _ (sound-length t s) (named-channel (Go x a) made) i n h
-changed-head t (Stop x f) i n s made q h = head-kept t x _ (sound-length t s) (named-channel (Stop x f) made) i n h
-changed-head t (StopAll f) i n s made q h = motors-head t (stopped f) i n s h
-changed-head t (ChangeSpeed x v) i n s made q h = head-kept t x _ (sound-length t s) (named-channel (ChangeSpeed x v) made) i n h
-changed-head t (Set x a) i n s made q h = head-kept t x _ (sound-length t s) (named-channel (Set x a) made) i n h
+changed-head t (Go x a) i n s made q h = motor-beside t x _ (sound-length t s) (named-channel (Go x a) made) i n h
+changed-head t (Stop x f) i n s made q h = motor-beside t x _ (sound-length t s) (named-channel (Stop x f) made) i n h
+changed-head t (StopAll f) i n s made q h = motors-beside t (stopped f) (sound-length t s) i n h
+changed-head t (ChangeSpeed x v) i n s made q h = motor-beside t x _ (sound-length t s) (named-channel (ChangeSpeed x v) made) i n h
+changed-head t (Set x a) i n s made q h = motor-beside t x _ (sound-length t s) (named-channel (Set x a) made) i n h
 changed-head t (Ask x a) i n s made q h = refl
 changed-head t (AskHead a) i n s made q h = refl
 changed-head t (ForHead o) i n s made q h = absurd (false≢true (sym q))
 
+-- What leaves all of it beside the set leaves both parts.
+both-parts : (t u : List ℕ) → ((i n : ℕ) → Beside i n → part u i n ≡ part t i n) → HeadLeft t u
+both-parts t u same = (same 0 4 (inl (omega arith)), same 6 58 (inr (omega arith, omega arith)))
+
 head : (t line reply : List ℕ) (o : Order) → orderOf line ≡ Is o → ofHead o ≡ false → commandCall t line reply .result % 256 ≡ 0
-    → part (commandCall t line reply .table) 0 64 ≡ part t 0 64
+    → HeadLeft t (commandCall t line reply .table)
 unfolding obeyed
 head t line reply o e q =
     let made : orderMade o ≡ true = rw e at (line-made line) in
-    let same : soundTable t ≡ true → part (obeyedTable t (orderOf line)) 0 64 ≡ part t 0 64 = λ s. rw e (changed-head t o 0 64 s made q (omega arith)) in
-    command-ways (λ a. a .result % 256 ≡ 0 → part (a .table) 0 64 ≡ part t 0 64) t line reply (λ n i z. refl)
+    let same : soundTable t ≡ true → HeadLeft t (obeyedTable t (orderOf line)) = λ s. rw e (both-parts t (changed t o) (λ i n. changed-head t o i n s made q)) in
+    command-ways (λ a. a .result % 256 ≡ 0 → HeadLeft t (a .table)) t line reply (λ n i z. (refl, refl))
     (λ s v h z. absurd (false≢true (rw (sym (refused-number t v reply) ∙ z) at h))) (λ s p f z. rw f at (same s))
 
--- Readings and ticks leave it.
-head-left : (t : List ℕ) (k : Call) → isCommand k ≡ false → part (after urqolina t k .table) 0 64 ≡ part t 0 64
+-- So do readings and ticks.
+head-left : (t : List ℕ) (k : Call) → isCommand k ≡ false → HeadLeft t (after urqolina t k .table)
 unfolding after
 head-left t (command line reply) q = absurd (false≢true (sym q))
 head-left t (reading c n) q =
-    reading-ways (λ a. part (a .table) 0 64 ≡ part t 0 64) t c n (λ k i. refl) (λ s h. head-kept t c _ (sound-length t s) h 0 64 (omega arith))
-head-left t (tick p) q = tick-ways (λ a. part (a .table) 0 64 ≡ part t 0 64) t p (λ n i. refl) (λ s. motors-head t (λ m. tickMotor m .motor) 0 64 s (omega arith))
+    reading-ways (λ a. HeadLeft t (a .table)) t c n (λ k i. (refl, refl)) (λ s h. both-parts t (withMotor t c _) (motor-beside t c _ (sound-length t s) h))
+head-left t (tick p) q =
+    tick-ways (λ a. HeadLeft t (a .table)) t p (λ n i. (refl, refl))
+    (λ s. both-parts t (withMotors t (λ m. tickMotor m .motor)) (motors-beside t (λ m. tickMotor m .motor) (sound-length t s)))
+
+-- An order of the head leaves the busy set, and so does a refusal.
+changed-set : (h : Head) (o : HeadOrder) → headChanged h o .busy ≡ h .busy
+unfolding headChanged
+changed-set h (Mode k) = refl
+changed-set h (AllReply k) = refl
+changed-set h ClearErrors = refl
+changed-set h (ClearError e) = refl
+changed-set h (Pause k) = refl
+
+ordered-set : (t : List ℕ) (o : Order) → soundTable t ≡ true → ofHead o ≡ true → headOf (changed t o) .busy ≡ headOf t .busy
+unfolding changed ofHead
+ordered-set t (Go x a) s q = absurd (false≢true q)
+ordered-set t (Stop x f) s q = absurd (false≢true q)
+ordered-set t (StopAll f) s q = absurd (false≢true q)
+ordered-set t (ChangeSpeed x v) s q = absurd (false≢true q)
+ordered-set t (Set x a) s q = absurd (false≢true q)
+ordered-set t (Ask x a) s q = refl
+ordered-set t (AskHead a) s q = refl
+ordered-set t (ForHead o) s q =
+    rw (head-back (motorsFreed t o) (headChanged (headOf t) o) (freed-length t o (sound-length t s))) (changed-set (headOf t) o)
+
+head-set : (t line reply : List ℕ) (o : Order) → orderOf line ≡ Is o → ofHead o ≡ true → headOf (commandCall t line reply .table) .busy ≡ headOf t .busy
+unfolding refused obeyed flagged
+head-set t line reply o e q =
+    let same : soundTable t ≡ true → headOf (obeyedTable t (orderOf line)) .busy ≡ headOf t .busy = λ s. rw e (ordered-set t o s q) in
+    command-ways (λ a. headOf (a .table) .busy ≡ headOf t .busy) t line reply (λ n i. refl)
+    (λ s v h. rw (head-back t _ (sound-length t s))) (λ s p f. rw f at (same s))
+
+-- On a table that is not sound a call leaves every byte; on a sound one the busy set is true before and after it.
+unsound-left : (t : List ℕ) (k : Call) → soundTable t ≡ false → after urqolina t k .table ≡ t
+unsound-left t k s = go (sizesRight t k) refl
+  where
+    go : (b : Bool) → sizesRight t k ≡ b → after urqolina t k .table ≡ t
+    go true e = ap (λ (a : After). a .table) (numbers .unsound t k e s)
+    go false e = ap (λ (a : After). a .table) (numbers .sizes t k e)
+
+-- A channel that is busy as before, or not, keeps its bit.
+same-bit : (t : List ℕ) (k : Call) (d : ℕ) → d ≤ 15 → busy (motorAt (after urqolina t k .table) d) ≡ busy (motorAt t d)
+    → listed d (after urqolina t k .table) ≡ listed d t
+same-bit t k d h same = go (soundTable t) refl
+  where
+    go : (b : Bool) → soundTable t ≡ b → listed d (after urqolina t k .table) ≡ listed d t
+    go true s = sound-set-at (after urqolina t k .table) d (next t k s .sound) h ∙ same ∙ sym (sound-set-at t d s h)
+    go false s = rw (unsound-left t k s)
+
+same-motor : (t u : List ℕ) (d : ℕ) → recordAt u d ≡ recordAt t d → busy (motorAt u d) ≡ busy (motorAt t d)
+unfolding motorAt
+same-motor t u d e = rw e
+
+-- What is busy after a reading was busy before it.
+read-before : (m : Motor) (n : ℕ) → busy (switchRead m n) ≡ true → busy m ≡ true
+unfolding switchRead
+read-before m n = go (busy m && blocked (m .drive .going) (contacted m n))
+  where
+    go : (t : Bool) → busy (cond t (endedWith lsend (contacted m n)) (contacted m n)) ≡ true → busy m ≡ true
+    go true b = absurd (false≢true b)
+    go false b = b
+
+-- A deed that is no start leaves a motor that was not busy so.
+busy-before : (p : Bool) (m : Motor) (d : Deed) → ((s : Start) → d ≡ starts s → ⊥) → busy (performed p m d) ≡ true → busy m ≡ true
+unfolding performed speedChanged
+busy-before p m (starts s) idle b = absurd (idle s refl)
+busy-before p m (stops f) idle b = go (busy m) refl
+  where
+    go : (t : Bool) → busy m ≡ t → t ≡ true
+    go true e = refl
+    go false e = sym e ∙ (rw (stopped-again f m e) at b)
+busy-before p m (speeds v) idle b = b
+busy-before p m (sets s) idle b = rw (set-drive m s) at b
+busy-before p m (reads n) idle b = read-before m n b
+busy-before p m ticks idle b = go (moving m) refl
+  where
+    go : (t : Bool) → moving m ≡ t → busy m ≡ true
+    go true e = moving-busy m e
+    go false e = rw (stopped-given-none m e) at b
+busy-before p m (pauses k) idle b = go (eqb k 0) b
+  where
+    go : (t : Bool) → busy (cond t (released m) m) ≡ true → busy m ≡ true
+    go true q = rw (released-drive m) at q
+    go false q = q
+busy-before p m rests idle b = b
+
+clears : (t : List ℕ) (k : Call) (d : ℕ) → d ≤ 15 → ((s : Start) → deed d t k ≡ starts s → ⊥) → Cleared d t (after urqolina t k .table)
+clears t k d h idle = go (soundTable t) refl
+  where
+    u : List ℕ
+    u = after urqolina t k .table
+
+    go : (b : Bool) → soundTable t ≡ b → Cleared d t (after urqolina t k .table)
+    go true s =
+        let was = sound-set-at t d s h in
+        let is = sound-set-at u d (next t k s .sound) h in
+        let motor = next t k s .follows d h .motor in
+        (λ q. was ∙ busy-before (pausedIn t) (motorAt t d) (deed d t k) idle (rw (motor) at (sym is ∙ q)), λ q r. (sym was ∙ q, sym is ∙ r))
+    go false s = rw (unsound-left t k s) (λ q. q, λ q r. absurd (false≢true (sym r ∙ q)))
+
+-- A reading leaves the other records.
+reading-others : (t : List ℕ) (c n d : ℕ) → (d ≡ c → ⊥) → recordAt (readingCall t c n .table) d ≡ recordAt t d
+reading-others t c n d ne =
+    reading-ways (λ a. recordAt (a .table) d ≡ recordAt t d) t c n (λ k i. refl) (λ s h. record-kept t c _ (sound-length t s) h d ne)
 
 -- The bytes that the demands ask to be left.
 pub neighbours : Neighbours urqolina
@@ -241,8 +342,12 @@ neighbours = record {
   pausing = unreleased;
   releasing = let-go;
   unticked = unticked;
-  readings = λ t c n d ne.
-      reading-ways (λ a. recordAt (a .table) d ≡ recordAt t d) t c n (λ k i. refl) (λ s h. record-kept t c _ (sound-length t s) h d ne);
+  readings = reading-others;
   head = head;
   headLeft = head-left;
+  headSet = head-set;
+  otherBits = λ t line reply o x d h e n ne.
+      unfold after in same-bit t (command line reply) d h (same-motor t _ d (unreached t line reply o d e (named-rests o x d n ne)));
+  readBits = λ t c n d h ne. unfold after in same-bit t (reading c n) d h (same-motor t _ d (reading-others t c n d ne));
+  cleared = clears;
 }

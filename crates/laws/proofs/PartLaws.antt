@@ -3,14 +3,15 @@
 use mathlib.Core.Path.{_≡_, refl, _∙_}
 use mathlib.Core.List.{List, [], _++_, append-nil, flatMap}
 use mathlib.Core.Bool.{Bool, true, false}
+use mathlib.Core.Logic.{_⊎_, inl, inr}
 use Prim.Native.Nat.{ℕ, zero, suc, _+_, _*_, _≤_, _<_}
 use native.Mathlib.Nat.{mul-zero, mul-suc, mul-le-mul-left}
 use native.Mathlib.Omega.{arith}
-use lib.ListN.{length, take, drop, replicate, length-append, length-take, length-drop}
+use lib.ListN.{length, take, drop, replicate, length-append, length-take, length-drop, drop-of-length-le}
 use lib.Dec.{eqb}
 use lib.Seq.{drop-drop, take-at, drop-at, take-append-le, drop-append-le}
 use borrow.Author.Tests.{eqb-true, eqb-false}
-use Rattle.digits.specs.Bytes.{part, pieces, gather}
+use Rattle.digits.specs.Bytes.{part, put, pieces, gather}
 use Rattle.digits.specs.Words.{wordBytes}
 use Rattle.record.specs.declared.Motor.{Motor}
 use Rattle.record.specs.Record.{motorOf, recordOf, freshMotor}
@@ -18,9 +19,11 @@ use Rattle.record.proofs.RoundTrip.{record-length}
 use Rattle.motor.specs.Sound.{soundMotor}
 use Rattle.motor.proofs.RecordLaws.{sound-written-read}
 use Rattle.pulses.specs.Ticks.{tickCount}
-use Rattle.table.specs.Layout.{tableSize, recordAt, motorAt, withMotors, freshTable}
+use Rattle.table.specs.Layout.{tableSize, recordStart, recordAt, records, motorAt, sealed, withMotor, withMotors, freshTable}
 use Rattle.table.specs.Computing.{computing-table}
-use Rattle.table.proofs.PieceLaws.{flat-more}
+use Rattle.table.proofs.PieceLaws.{flat-more, flat-length, part-before}
+use Rattle.table.proofs.SealLaws.{sealed-before, sealed-after}
+use Rattle.table.proofs.KeptLaws.{head-before, head-behind}
 use Rattle.urqolina.specs.Calls.{counts}
 
 -- Pieces of n bytes, laid one after the other: the one numbered c is the c-th that was laid.
@@ -51,21 +54,62 @@ pub flat-part : (f : List ℕ → List ℕ) (w n : ℕ) (s : List ℕ) → ((r :
 flat-part f w n s h k c l =
     laid-part (λ j. flatMap f (pieces w j s)) (λ j. f (take w (drop (w * j) s))) n (unfold flatMap pieces in refl) (λ j. flat-more f w j s) (λ j. h (take w (drop (w * j) s))) k .1 c l
 
--- The record of channel c, where each of the sixteen motors is changed by g.
-pub motors-record : (t : List ℕ) (g : Motor → Motor) (c : ℕ) → length t ≡ tableSize → c ≤ 15
-    → recordAt (withMotors t g) c ≡ recordOf (g (motorAt t c))
-unfolding part withMotors motorAt
-motors-record t g c e h =
-    let f : List ℕ → List ℕ = λ r. recordOf (g (motorOf r)) in
-    let head : length (take 64 t) ≡ 64 = rw length-take (omega arith) in
-    rw (← drop-drop (64 * c) 64 (take 64 t ++ flatMap f (pieces 64 16 (drop 64 t))), drop-at (take 64 t) (flatMap f (pieces 64 16 (drop 64 t))) 64 head)
-    (flat-part f 64 64 (drop 64 t) (λ r. record-length (g (motorOf r))) 16 c (omega arith) ∙ rw drop-drop)
+-- bytes of the head beside the busy set: 0 to 3, or 6 to 63
+abbrev pub Beside : ℕ → ℕ → Type 0
+Beside i n = (i + n ≤ 4) ⊎ ((6 ≤ i) × (i + n ≤ 64))
+
+-- A motor that is written leaves them.
+pub motor-beside : (t : List ℕ) (c : ℕ) (m : Motor) → length t ≡ tableSize → c ≤ 15 → (i n : ℕ) → Beside i n → part (withMotor t c m) i n ≡ part t i n
+motor-beside t c m e h i n (inl l) = head-before t c m e h i n l
+motor-beside t c m e h i n (inr l) = head-behind t c m e h i n (l .0) (l .1)
+
+-- Sixteen motors changed by g.
+module _ (t : List ℕ) (g : Motor → Motor) (whole : length t ≡ tableSize) where
+  -- their records, one after the other, and the table with them
+  all : List ℕ
+  all = flatMap (λ r. recordOf (g (motorOf r))) (records t)
+
+  all-length : length all ≡ 1024
+  unfolding all
+  all-length = flat-length (λ r. recordOf (g (motorOf r))) 64 64 16 (drop 64 t) (λ r. record-length (g (motorOf r)))
+
+  laid : List ℕ
+  laid = take 64 t ++ all
+
+  laid-length : length laid ≡ tableSize
+  unfolding laid
+  laid-length = let n = all-length in rw (length-append, length-take) (omega arith)
+
+  laid-head : (i n : ℕ) → i + n ≤ 64 → part laid i n ≡ part t i n
+  unfolding laid put
+  laid-head i n h = rw (all-length, drop-of-length-le t {i = 1088} (omega arith), append-nil) at (part-before t all 64 i n h (omega arith))
+
+  motors-laid : withMotors t g ≡ sealed laid
+  unfolding withMotors laid all
+  motors-laid = refl
+
+  -- They leave the head beside the busy set,
+  pub motors-beside : (i n : ℕ) → Beside i n → part (withMotors t g) i n ≡ part t i n
+  motors-beside i n (inl l) = rw (motors-laid) (sealed-before laid laid-length i n l ∙ laid-head i n (omega arith))
+  motors-beside i n (inr l) = rw (motors-laid) (sealed-after laid laid-length i n (l .0) ∙ laid-head i n (l .1))
+
+  -- and each record is that of the motor as it is then.
+  laid-record : (c : ℕ) → c ≤ 15 → recordAt laid c ≡ recordOf (g (motorAt t c))
+  unfolding part motorAt laid all
+  laid-record c h =
+      let f : List ℕ → List ℕ = λ r. recordOf (g (motorOf r)) in
+      let head : length (take 64 t) ≡ 64 = rw length-take (omega arith) in
+      rw (← drop-drop (64 * c) 64 (take 64 t ++ flatMap f (pieces 64 16 (drop 64 t))), drop-at (take 64 t) (flatMap f (pieces 64 16 (drop 64 t))) 64 head)
+      (flat-part f 64 64 (drop 64 t) (λ r. record-length (g (motorOf r))) 16 c (omega arith) ∙ rw drop-drop)
+
+  pub motors-record : (c : ℕ) → c ≤ 15 → recordAt (withMotors t g) c ≡ recordOf (g (motorAt t c))
+  motors-record c h = rw (motors-laid) (sealed-after laid laid-length (recordStart c) 64 (omega arith) ∙ laid-record c h)
 
 -- and its motor, where it is sound
 pub motors-motor : (t : List ℕ) (g : Motor → Motor) (c : ℕ) → length t ≡ tableSize → c ≤ 15 → soundMotor (g (motorAt t c)) ≡ true
     → motorAt (withMotors t g) c ≡ g (motorAt t c)
 unfolding motorAt
-motors-motor t g c e h s = rw (motors-record t g c e h) (sound-written-read (g (motorAt t c)) s)
+motors-motor t g c e h s = rw (motors-record t g e c h) (sound-written-read (g (motorAt t c)) s)
 
 -- The count of channel c in the pulse buffer after a tick.
 four-bytes : (n : ℕ) → length (wordBytes 4 n) ≡ 4

@@ -33,7 +33,7 @@ use Rattle.table.specs.Layout.{motorAt, freshTable}
 use Rattle.table.specs.Sound.{soundTable}
 use Rattle.table.specs.Computing.{computing-table}
 use Rattle.table.proofs.KeptLaws.{fresh-sound}
-use Rattle.table.proofs.TableLaws.{sound-motor-at}
+use Rattle.table.proofs.TableLaws.{sound-motor-at, sound-set-at}
 use Rattle.laws.specs.Sequences.{urqolina, Call, after, run, Beginning, fromFresh, ran}
 use Rattle.laws.specs.Deeds as D
 use Rattle.laws.specs.Deeds.{Deed, deed}
@@ -310,6 +310,7 @@ module _ (b : Beginning) (c : ℕ) (on : c ≤ 15) (ks : List Call) where
         neverLess = λ e. omega (arith, balanced .exact (sym (balanced .lasting) ∙ e), sound-bounds m o .fraction);
         starting = starting;
         lasting = balanced .lasting;
+        listing = sound-set-at t c s on ∙ sym (balanced .lasting);
         counting = balanced .counting;
         pause = balance .1;
         releasing = releasing;

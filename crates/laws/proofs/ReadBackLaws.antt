@@ -2,6 +2,7 @@
 use mathlib.Core.Path.{_≡_, refl}
 use mathlib.Core.List.{List, [], _∷_}
 use mathlib.Core.Bool.{Bool, true, false, not, cond}
+use mathlib.Core.Logic.{inl}
 use Prim.Native.Nat.{ℕ, _*_, _≤_}
 use native.Mathlib.Nat.{zero-add}
 use native.Mathlib.Omega.{arith}
@@ -37,7 +38,6 @@ use Rattle.table.specs.declared.head.Head.{Head}
 use Rattle.table.specs.Sound.{soundTable}
 use Rattle.table.proofs.TableLaws.{sound-length, sound-motor-at}
 use Rattle.table.proofs.HeadLaws.{same-head, head-back}
-use Rattle.table.proofs.KeptLaws.{head-kept}
 use Rattle.commands.specs.Judging.{meetsBusy, judgeMotor, judge}
 use Rattle.commands.proofs.HeadOrderLaws.{freed-length}
 use Rattle.commands.specs.Changing.{headChanged, motorsFreed, changed, flagged}
@@ -53,7 +53,8 @@ use Rattle.laws.specs.Neighbours.{ofHead}
 use Rattle.laws.proofs.DeedLaws.{Fits, fits-set, performed, pausedIn}
 use Rattle.laws.proofs.Following.{Follows, order-follows, next}
 use Rattle.laws.proofs.CallWays.{sound-ways, reading-ways, tick-ways}
-use Rattle.laws.proofs.NeighbourLaws.{motors-head, changed-head}
+use Rattle.laws.proofs.PartLaws.{motor-beside, motors-beside}
+use Rattle.laws.proofs.NeighbourLaws.{changed-head}
 use Rattle.laws.proofs.LastingLaws.{run-sound, ran-sound}
 use Rattle.laws.proofs.TravelLaws.{tick-count}
 use Rattle.laws.proofs.SettingLaws.{Tells, set-tells, performed-tells}
@@ -187,7 +188,7 @@ module _ (t : List ℕ) (s : soundTable t ≡ true) (i : ℕ) (l : eqb 2 i ≡ f
 
   -- an order that is not of the head
   unwritten : (o : Order) → orderMade o ≡ true → ofHead o ≡ false → field i (headOf (changed t o)) ≡ field i (headOf t)
-  unwritten o made q = rw (same-head t (changed t o) (λ j n h. changed-head t o j n s made q h))
+  unwritten o made q = rw (same-head t (changed t o) (λ j n h. changed-head t o j n s made q (inl h)))
 
   order-field : (o : Order) → orderMade o ≡ true → writesField i o ≡ false → field i (headOf (changed t o)) ≡ field i (headOf t)
   unfolding ofHead writesField
@@ -207,8 +208,8 @@ module _ (t : List ℕ) (s : soundTable t ≡ true) (i : ℕ) (l : eqb 2 i ≡ f
       go leaves e = refl
       go (refuses n) e = unfold flagged in written t _ whole (errors-field (headOf t) (withBit (flagBit n) (headOf t .errors)) i l)
       go (obeys o m j) e = order-field o m e
-      go (motor x m h) e = rw (same-head t (withMotor t x m) (head-kept t x m whole h))
-      go (motors f) e = rw (same-head t (withMotors t f) (λ j n h. motors-head t f j n s h))
+      go (motor x m h) e = rw (same-head t (withMotor t x m) (λ j n l. motor-beside t x m whole h j n (inl l)))
+      go (motors f) e = rw (same-head t (withMotors t f) (λ j n h. motors-beside t f whole j n (inl h)))
 
 -- So it stays over every sequence that takes no such order.
 field-on : (u : List ℕ) (later : List Call) (i n : ℕ) → eqb 2 i ≡ false → soundTable u ≡ true → never urqolina (changesHead i) u later ≡ true

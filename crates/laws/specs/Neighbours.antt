@@ -5,14 +5,16 @@ use mathlib.Core.Bool.{Bool, true, false, _&&_}
 use lib.Dec.{eqb}
 use Prim.Native.Nat.{ℕ, _%_, _≤_}
 use Rattle.digits.specs.Bytes.{AllBytes, part, put}
+use Rattle.digits.specs.Words.{isSet}
 use Rattle.motor.specs.Sound.{busy, moving}
+use Rattle.line.specs.declared.Start.{Start}
 use Rattle.line.specs.declared.Order.{Order}
 use Rattle.line.specs.declared.Order.the-variants.{Go, Stop, StopAll, ChangeSpeed, Set, Ask, AskHead, ForHead}
 use Rattle.line.specs.declared.Parsed.the-variants.{Is}
 use Rattle.line.specs.Forms.{orderOf}
-use Rattle.table.specs.Layout.{recordAt, motorAt}
+use Rattle.table.specs.Layout.{headOf, recordAt, motorAt}
 use Rattle.laws.specs.Sequences.{Library, Call, command, reading, tick, after}
-use Rattle.laws.specs.Deeds.{stops, pauses, rests, names, deedOf}
+use Rattle.laws.specs.Deeds.{starts, stops, pauses, rests, names, deedOf, deed}
 use Rattle.laws.specs.Numbers.{isCommand}
 
 -- an order of the head: LOC, REM, ALL_REP EN and DS, ERRC and ERRCe, PAUSE ON and OFF
@@ -25,6 +27,20 @@ ofHead (Set x s) = false
 ofHead (Ask x q) = false
 ofHead (AskHead q) = false
 ofHead (ForHead h) = true
+
+-- 02 §6: "bit c for channel c": a channel is in the busy set that the head of a table holds
+abbrev pub listed : ℕ → List ℕ → Bool
+listed c t = isSet c (headOf t .busy)
+
+-- the head is left but for that set, in "head bytes 4-5"
+abbrev pub HeadLeft : List ℕ → List ℕ → Type 0
+HeadLeft t u = (part u 0 4 ≡ part t 0 4) × (part u 6 58 ≡ part t 6 58)
+
+-- a channel is not put into the set, and is taken out only where its drive ends
+abbrev pub Cleared : ℕ → List ℕ → List ℕ → Type 0
+Cleared c t u =
+    (listed c u ≡ true → listed c t ≡ true)
+    × (listed c t ≡ true → listed c u ≡ false → (busy (motorAt t c) ≡ true) × (busy (motorAt u c) ≡ false))
 
 -- Demand 2, what a call leaves byte for byte, on any table whatever it holds
 pub record Neighbours (l : Library) : Type 0 where
@@ -48,7 +64,16 @@ pub record Neighbours (l : Library) : Type 0 where
   pub unticked : (t p : List ℕ) (d : ℕ) → AllBytes t → d ≤ 15 → moving (motorAt t d) ≡ false → recordAt (l .tick t p .table) d ≡ recordAt t d
   -- a switch reading leaves every record but its channel's
   pub readings : (t : List ℕ) (c n d : ℕ) → (d ≡ c → ⊥) → recordAt (l .reading t c n .table) d ≡ recordAt t d
-  -- an accepted order that is not of the head leaves the head, and so do readings and ticks
+  -- an accepted order that is not of the head leaves the head but for the busy set, and so do readings and ticks
   pub head : (t line reply : List ℕ) (o : Order) → orderOf line ≡ Is o → ofHead o ≡ false → l .command t line reply .result % 256 ≡ 0
-      → part (l .command t line reply .table) 0 64 ≡ part t 0 64
-  pub headLeft : (t : List ℕ) (k : Call) → isCommand k ≡ false → part (after l t k .table) 0 64 ≡ part t 0 64
+      → HeadLeft t (l .command t line reply .table)
+  pub headLeft : (t : List ℕ) (k : Call) → isCommand k ≡ false → HeadLeft t (after l t k .table)
+  -- an order of the head leaves the busy set
+  pub headSet : (t line reply : List ℕ) (o : Order) → orderOf line ≡ Is o → ofHead o ≡ true
+      → headOf (l .command t line reply .table) .busy ≡ headOf t .busy
+  -- in it a command that names a channel changes no other channel's bit, nor does a reading
+  pub otherBits : (t line reply : List ℕ) (o : Order) (x d : ℕ) → d ≤ 15 → orderOf line ≡ Is o → names x o ≡ true → (d ≡ x → ⊥)
+      → listed d (l .command t line reply .table) ≡ listed d t
+  pub readBits : (t : List ℕ) (c n d : ℕ) → d ≤ 15 → (d ≡ c → ⊥) → listed d (l .reading t c n .table) ≡ listed d t
+  -- and only an accepted start of its channel sets a bit: ASSTP, AESTP, a tick and all else clear bits of drives that end, and no other
+  pub cleared : (t : List ℕ) (k : Call) (d : ℕ) → d ≤ 15 → ((s : Start) → deed d t k ≡ starts s → ⊥) → Cleared d t (after l t k .table)

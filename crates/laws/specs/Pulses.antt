@@ -17,6 +17,7 @@ use Rattle.table.specs.Layout.{headOf, paused, motorAt}
 use Rattle.table.specs.Sound.{soundTable}
 use Rattle.laws.specs.Sequences.{Library, Call, tick, after, run, Beginning, fromFresh, ran, never}
 use Rattle.laws.specs.Deeds.{Deed, starts, stops, speeds, sets, reads, ticks, pauses, rests, deed}
+use Rattle.laws.specs.Neighbours.{listed}
 use Rattle.laws.specs.Ledger.{countAt, cwPulses, ccwPulses, against, Account, noDrive, takesTicks, setsOff, courseIn, account, ticksIn, Travel, noTravel, travel, settings}
 
 -- "the table is sound" after any sequence, "so 6 never comes"
@@ -66,6 +67,8 @@ module _ (l : Library) (b : Beginning) (c : ℕ) (ks : List Call) where
     pub starting : (k : Call) (s : Start) → deed c tableNow k ≡ starts s → setsOff motorNow s ≡ true
         → (busy (motorNext k) ≡ true) × (moving (motorNext k) ≡ not (accountNow .paused))
     pub lasting : accountNow .lasts ≡ busy motorNow
+    -- 02 §6: "Keep it in head bytes 4-5, bit c for channel c, held drives included": the bit is set exactly while the drive lasts
+    pub listing : listed c tableNow ≡ accountNow .lasts
     -- and the motor moves exactly while the drive's ticks count
     pub counting : takesTicks accountNow ≡ moving motorNow
     -- what the lines have made of pause is what the table holds

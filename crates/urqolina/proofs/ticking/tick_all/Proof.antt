@@ -29,9 +29,12 @@ read-head-requires c κs = sound-length _ (c .before .before .before .pre .0)
 zero-front-requires : tie.Need-zero-front-requires Inv-loop μ-loop
 zero-front-requires c κs = search needs
 
+cast-left : tie.Need-cast-left Inv-loop μ-loop
+cast-left c = search needs
+
 loop-holds : tie.Need-loop-holds Inv-loop μ-loop
 loop-holds c =
-    let z = c .before .before in
+    let z = c .before .before .before in
     let r = z .before .before in
     let k = r .before .before .before in
     let a = k .before in
@@ -50,7 +53,7 @@ loop-holds c =
 channel : (c : tie.In-loop Inv-loop μ-loop) → c .before .loop .c ≤ 15
 channel c =
     let l = c .before in
-    let a = l .before .before .before .before .before .before .before .before .before in
+    let a = l .before .before .before .before .before .before .before .before .before .before in
     let t₀ = a .args .t .now in
     some-left (headOf t₀ .busy) (l .loop .c) (rw (sound-set t₀ (a .pre .0)) (set-below t₀)) (l .loop .inv .0) (λ z. c .loop-test .taken (l .loop .inv .5 ∙ z))
 
@@ -58,7 +61,7 @@ tick-listed-requires : tie.Need-tick-listed-requires Inv-loop μ-loop
 tick-listed-requires c κs =
     let i = c .before .before in
     let l = i .before in
-    let a = l .before .before .before .before .before .before .before .before .before in
+    let a = l .before .before .before .before .before .before .before .before .before .before in
     let t₀ = a .args .t .now in
     let k = l .loop .c in
     let s = a .pre .0 in
@@ -78,7 +81,7 @@ loop-again c =
     let d = c .before .before .before .before in
     let i = d .before .before .before in
     let l = i .before in
-    let a = l .before .before .before .before .before .before .before .before .before in
+    let a = l .before .before .before .before .before .before .before .before .before .before in
     let t₀ = a .args .t .now in
     let k = l .loop .c in
     let whole = sound-length t₀ (a .pre .0) in
@@ -94,7 +97,7 @@ loop-again c =
     )
 
 same-length : tie.Need-same-length Inv-loop μ-loop
-same-length c = let e = sound-length _ (c .before .before .before .before .before .before .before .before .before .before .pre .0) in search needs
+same-length c = let e = sound-length _ (c .before .before .before .before .before .before .before .before .before .before .before .pre .0) in search needs
 
 same-length-2 : tie.Need-same-length-2 Inv-loop μ-loop
 same-length-2 c = search needs
@@ -102,7 +105,7 @@ same-length-2 c = search needs
 returns : tie.Need-returns Inv-loop μ-loop
 returns c =
     let l = c .before in
-    let a = l .before .before .before .before .before .before .before .before .before in
+    let a = l .before .before .before .before .before .before .before .before .before .before in
     let t₀ = a .args .t .now in
     let k = l .loop .c in
     let s = a .pre .0 in
@@ -121,6 +124,7 @@ tick-all-spec =
     μ-loop
     read-head-requires
     zero-front-requires
+    cast-left
     loop-holds
     tick-listed-requires
     add-c
