@@ -281,7 +281,7 @@ same-motor : (t u : List ℕ) (d : ℕ) → recordAt u d ≡ recordAt t d → bu
 unfolding motorAt
 same-motor t u d e = rw e
 
--- What is busy after a reading was busy before it.
+-- What is busy after a reading was busy before it,
 read-before : (m : Motor) (n : ℕ) → busy (switchRead m n) ≡ true → busy m ≡ true
 unfolding switchRead
 read-before m n = go (busy m && blocked (m .drive .going) (contacted m n))
@@ -289,6 +289,14 @@ read-before m n = go (busy m && blocked (m .drive .going) (contacted m n))
     go : (t : Bool) → busy (cond t (endedWith lsend (contacted m n)) (contacted m n)) ≡ true → busy m ≡ true
     go true b = absurd (false≢true b)
     go false b = b
+
+-- and what is after a tick, before the tick.
+tick-before : (m : Motor) → busy (tickMotor m .motor) ≡ true → busy m ≡ true
+tick-before m b = go (moving m) refl
+  where
+    go : (t : Bool) → moving m ≡ t → busy m ≡ true
+    go true e = moving-busy m e
+    go false e = let same : tickMotor m .motor ≡ m = rw (stopped-given-none m e) in rw same at b
 
 -- A deed that is no start leaves a motor that was not busy so.
 busy-before : (p : Bool) (m : Motor) (d : Deed) → ((s : Start) → d ≡ starts s → ⊥) → busy (performed p m d) ≡ true → busy m ≡ true
@@ -302,11 +310,7 @@ busy-before p m (stops f) idle b = go (busy m) refl
 busy-before p m (speeds v) idle b = b
 busy-before p m (sets s) idle b = rw (set-drive m s) at b
 busy-before p m (reads n) idle b = read-before m n b
-busy-before p m ticks idle b = go (moving m) refl
-  where
-    go : (t : Bool) → moving m ≡ t → busy m ≡ true
-    go true e = moving-busy m e
-    go false e = rw (stopped-given-none m e) at b
+busy-before p m ticks idle b = tick-before m b
 busy-before p m (pauses k) idle b = go (eqb k 0) b
   where
     go : (t : Bool) → busy (cond t (released m) m) ≡ true → busy m ≡ true
