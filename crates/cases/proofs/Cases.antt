@@ -1,6 +1,6 @@
 -- The calls computed on cases beyond document 01's marked ones: the order of the refusals, the replies, settings read back,
--- bare numbers, switch readings, contacts that are unknown, drives that are held, and inputs that no call may take. Each list is one
--- statement, and its proof is the computation.
+-- bare numbers, switch readings, contacts that are unknown, drives that are held, the busy set, and inputs that no call may take. Each
+-- list is one statement, and its proof is the computation.
 use mathlib.Core.Path.{_≡_, refl}
 use mathlib.Core.List.{List, [], _∷_, _++_, map}
 use Prim.Native.Nat.{ℕ}
@@ -183,6 +183,39 @@ sound-held = (
   tried-checked _ _ _ refl,
   tried-checked _ _ _ refl,
 )
+
+-- 02 §6: "Keep it in head bytes 4-5, bit c for channel c, held drives included", and `BSY?` "answers four hex digits", in both modes. A
+-- start sets its bit, held or not; REL 0 and what is refused set none; SPC and the lines of pause leave it. A tick that ends a drive, at
+-- its target or at its limit, clears the bit while the pulse stands in the buffer; so do a reading and a stop, of a held drive too.
+-- Channel F is the 8 of the first digit, and stands in byte 5.
+keeping : List (List Step)
+keeping =
+    (reads 0 0 0 ∷ reads 3 0 0 ∷ reads 15 0 0 ∷ says "BSY?" 0 "0000" ∷ says "REM" 0 "" ∷ says "REL0+0" 0 "" ∷ says "SCANP1" 9 "" ∷ says "BSY?" 0 "0000" ∷ says "SPDM05000000" 0 ""
+    ∷ says "REL0+1" 0 "" ∷ says "SCANP3" 0 "" ∷ says "BSY?" 0 "0009" ∷ says "SPC3400" 0 "" ∷ says "SCANP3" 2 "" ∷ says "PAUSE ON" 0 "" ∷ says "SCANNF" 0 "" ∷ says "BSY?" 0 "8009"
+    ∷ holds 3 (1 ∷ 0x09 ∷ 0x80 ∷ 0 ∷ []) ∷ ticks 0 cw 1 ∷ says "BSY?" 0 "8008" ∷ says "PAUSE OFF" 0 "" ∷ says "BSY?" 0 "8008" ∷ reads 15 2 0 ∷ says "BSY?" 0 "0008"
+    ∷ says "LOC" 0 "" ∷ says "BSY?" 0 "0008" ∷ says "ASSTP" 0 "" ∷ says "BSY?" 0 "0000" ∷ holds 3 (0 ∷ 0 ∷ 0 ∷ 0 ∷ []) ∷ says "BSY?0" 1 "" ∷ [])
+    ∷ (reads 10 0 0 ∷ says "REM" 0 "" ∷ says "SPDMA5000000" 0 "" ∷ says "FLA+3" 0 "" ∷ says "SETLSA11110000" 0 "" ∷ says "SCANPA" 0 "" ∷ says "BSY?" 0 "0400" ∷ ticks 10 cw 3
+    ∷ says "BSY?" 0 "0000" ∷ says "STSA?" 0 "RAS020+0000003" ∷ says "PAUSE ON" 0 "" ∷ says "SCANNA" 0 "" ∷ says "ALL_REP EN" 0 "OK" ∷ says "BSY?" 0 "0400" ∷ says "ESTPA" 0 "OK"
+    ∷ says "BSY?" 0 "0000" ∷ [])
+    ∷ []
+
+keeping-checked : map seen keeping ≡ map (λ c. map stated c) keeping
+unfolding computing-urqolina keeping fresh Q.after after seenBy stated
+keeping-checked = all-checked keeping refl
+
+-- "Soundness asks that it is true", "a wrong set is 6": what a tick gives on a table with bytes 4 and 5 of its head set otherwise.
+abbrev startedAt8 : List Step
+startedAt8 = reads 8 0 0 ∷ says "REM" 0 "" ∷ says "SCANP8" 0 "" ∷ []
+
+abbrev sets : List (List ℕ) → List (List ℕ → List ℕ)
+sets bs = map (λ b. λ t. put t 4 b) bs
+
+sound-sets :
+    (tried [] (sets ((0 ∷ []) ∷ (1 ∷ []) ∷ (0 ∷ 1 ∷ []) ∷ (0 ∷ 128 ∷ []) ∷ [])) ≡ 0 ∷ 6 ∷ 6 ∷ 6 ∷ [])
+    × (tried started (sets ((1 ∷ []) ∷ (0 ∷ []) ∷ (3 ∷ []) ∷ (0 ∷ 128 ∷ []) ∷ (1 ∷ 1 ∷ []) ∷ (2 ∷ []) ∷ [])) ≡ 0 ∷ 6 ∷ 6 ∷ 6 ∷ 6 ∷ 6 ∷ [])
+    × (tried startedAt8 (sets ((0 ∷ 1 ∷ []) ∷ (1 ∷ 0 ∷ []) ∷ [])) ≡ 0 ∷ 6 ∷ []) × (tried heldScan (sets ((1 ∷ []) ∷ (0 ∷ []) ∷ [])) ≡ 0 ∷ 6 ∷ [])
+unfolding computing-urqolina fresh Q.after after leftBy
+sound-sets = (tried-checked _ _ _ refl, tried-checked _ _ _ refl, tried-checked _ _ _ refl, tried-checked _ _ _ refl)
 
 -- A stop of one channel leaves the drive of another; ASSTP and AESTP stop all that drive and leave the end flags of the rest.
 stops : List Step

@@ -4,7 +4,7 @@
 -- that misread a request of document 02. Each is ours with one call replaced, and is refused on one short sequence, by computing it.
 -- Assumes nothing.
 use Prim.Native.Char.{code}
-use Prim.Native.Nat.{ℕ, _+_, _*_, _-_, _%_, _≤_, _<_}
+use Prim.Native.Nat.{ℕ, _+_, _*_, _-_, _/_, _%_, _≤_, _<_}
 use Prim.Native.String as S
 use native.Mathlib.Omega.{arith}
 use mathlib.Core.Path.{_≡_, refl, sym, ap, _∙_}
@@ -13,26 +13,27 @@ use mathlib.Core.Bool.{Bool, true, false, _&&_, not, cond, false≢true}
 use lib.ListN.{length, replicate, getD}
 use lib.Dec.{eqb, leb}
 use Rattle.digits.specs.Bytes.{put}
-use Rattle.digits.specs.Words.{wordBytes, withBit, withoutBit}
+use Rattle.digits.specs.Words.{wordBytes, isSet, withBit, withoutBit, bitsOf}
 use Rattle.digits.specs.Places.{origin, highest, cw}
-use Rattle.text.specs.Text.{bytes, same}
+use Rattle.text.specs.Text.{bytes, same, hexByte, hexWord}
 use Rattle.record.specs.declared.Wiring.{Wiring}
 use Rattle.record.specs.declared.Drive.{Drive}
 use Rattle.record.specs.declared.Motor.{Motor}
 use Rattle.record.specs.Record.{withPlace, withLimits, withWiring, withSetup, withDrive, withFraction, withSpeedInForce}
 use Rattle.motor.specs.Switches.{digital}
-use Rattle.motor.specs.Sound.{busy}
+use Rattle.motor.specs.Sound.{busy, moving}
 use Rattle.drive.specs.Numbers.{numberOf}
 use Rattle.drive.specs.Drives.{selectedSpeed, released, stopped, contacted}
 use Rattle.line.specs.declared.Start.the-variants.{Rel, Scan}
 use Rattle.line.specs.declared.Setting.the-variants.{Preset, SetCwLimit}
 use Rattle.line.specs.declared.Question.the-variants.{AskStatus}
+use Rattle.line.specs.declared.HeadQuestion.the-variants.{AskBusy}
 use Rattle.line.specs.declared.HeadOrder.the-variants.{Mode, Pause}
 use Rattle.line.specs.declared.Order.{Order}
 use Rattle.line.specs.declared.Order.the-variants.{Go, Stop, ChangeSpeed, Set, ForHead}
 use Rattle.line.specs.declared.Parsed.the-variants.{Is, Nothing}
 use Rattle.line.specs.Forms.{ssend, orderOf}
-use Rattle.table.specs.Layout.{headOf, withHead, withMode, withReply, withErrors, withPause, motorAt, withMotor, withMotors, freshTable}
+use Rattle.table.specs.Layout.{headOf, withHead, withMode, withReply, withErrors, withPause, withBusy, motorAt, sealed, withMotor, withMotors, freshTable}
 use Rattle.table.specs.Sound.{soundTable}
 use Rattle.commands.specs.Judging.{judge}
 use Rattle.commands.specs.Changing.{flagged}
@@ -43,7 +44,7 @@ use Rattle.laws.specs.Sequences.{Library, Call, urqolina, command, reading, tic
 use Rattle.laws.specs.Deeds.{Deed, starts, stops, speeds, sets, reads, ticks, pauses, rests, deed, isTick, verdict, orderTaken}
 use Rattle.laws.specs.Ledger.{countAt, Account, Travel}
 use Rattle.laws.specs.Numbers.{Numbers, Replies, sizesRight, starting, asks}
-use Rattle.laws.specs.Neighbours.{Neighbours}
+use Rattle.laws.specs.Neighbours.{listed, Neighbours}
 use Rattle.laws.specs.ReadBack.{ReadsBack, isSome}
 use Rattle.laws.specs.Pulses.{motorNow, accountNow, travelNow, settingsNow, Ends, byStop, bySwitch, byTarget, byRoom, Demand3, Settled}
 use Rattle.laws.specs.Contacts.{toldNow, Contacts}
@@ -57,6 +58,10 @@ AllDemand3 l = (b : Beginning) (c : ℕ) → c ≤ 15 → (ks : List Call) → D
 abbrev pub AllReadsBack : Library → Type 0
 AllReadsBack l = (b : Beginning) (ks : List Call) (k : Call) (later : List Call) (line reply : List ℕ)
     (enough : 32 ≤ length reply) → ReadsBack l b ks k later line reply enough
+
+-- The replies on every sound table.
+abbrev pub AllReplies : Library → Type 0
+AllReplies l = (t line reply : List ℕ) (sound : soundTable t ≡ true) (enough : 32 ≤ length reply) → Replies l t line reply sound enough
 
 -- ours with another command, or another tick
 abbrev pub withCommand : (List ℕ → List ℕ → List ℕ → CommandAfter) → Library
@@ -439,8 +444,7 @@ talks =
     let a = commandCall (withHead t (withReply (headOf t) 1)) line reply in
     record { result = a .result; table = withHead (a .table) (withReply (headOf (a .table)) 0); reply = a .reply })
 
-pub talks-refused :
-    ((t line reply : List ℕ) (sound : soundTable t ≡ true) (enough : 32 ≤ length reply) → Replies talks t line reply sound enough) → ⊥
+pub talks-refused : AllReplies talks → ⊥
 unfolding computing-laws
 talks-refused r =
     let fact : _≡_ {A = ℕ} 512 0 = r freshTable (bytes "REM") (replicate 32 0) refl (omega arith) .others refl .0 in
@@ -585,8 +589,7 @@ showsUnread =
     (record { result = commandCall t line reply .result; table = t; reply = commandCall (withMotor t 0 (contacted (motorAt t 0) (motorAt t 0 .wiring .contacts))) line reply .reply })
     (commandCall t line reply))
 
-pub shows-unread-refused :
-    ((t line reply : List ℕ) (sound : soundTable t ≡ true) (enough : 32 ≤ length reply) → Replies showsUnread t line reply sound enough) → ⊥
+pub shows-unread-refused : AllReplies showsUnread → ⊥
 unfolding computing-laws
 shows-unread-refused r =
     let t = ran urqolina lent (says "REM" ∷ says "SETLS001110111" ∷ []) in
@@ -788,3 +791,85 @@ flags-in-turn-refused d =
     let left = d .flags freshTable (bytes "SCANP0") (replicate 32 0) 7 refl refl in
     let fact : _≡_ {A = ℕ} 64 8 = ap (λ (t : List ℕ). getD t 2 0) left in
     absurd (omega (arith, fact))
+
+-- 02 §6, "Keep the busy set", misread. The table with another busy set in its head:
+abbrev pub withSet : List ℕ → ℕ → List ℕ
+withSet t n = withHead t (withBusy (headOf t) n)
+
+-- A library is refused if the bit of channel 0 is not what its account says.
+unlisted : (l : Library) (ks : List Call) (b : Bool) → listed 0 (ran l lent ks) ≡ not b → accountNow l lent 0 ks .lasts ≡ b → AllDemand3 l → ⊥
+unlisted l ks b e f d = other b (sym e ∙ d lent 0 (omega arith) ks .listing ∙ f)
+  where
+    other : (b : Bool) → not b ≡ b → ⊥
+    other true q = false≢true q
+    other false q = false≢true (sym q)
+
+-- A tick that leaves the bit of a drive that it ends, by its room or at its target.
+abbrev pub leavesBits : Library
+leavesBits = withTick (λ t p. let a = tickCall t p in record { result = a .result; table = withSet (a .table) (headOf t .busy); pulses = a .pulses })
+
+pub leaves-bits-refused : AllDemand3 leavesBits → ⊥
+unfolding computing-laws
+leaves-bits-refused =
+    unlisted leavesBits (ready ++ (says "FL0+3" ∷ says "SETLS011110000" ∷ says "SPDM05000000" ∷ says "SCANP0" ∷ ticked ∷ [])) false refl refl
+
+-- Held drives left out, and put in at the release: the set is that of the motors that move.
+abbrev pub listsMoving : Library
+listsMoving =
+    withCommand
+    (λ t line reply.
+    let a = commandCall t line reply in
+    record { result = a .result; table = withSet (a .table) (bitsOf (λ c. moving (motorAt (a .table) c)) 16); reply = a .reply })
+
+pub lists-moving-refused : AllDemand3 listsMoving → ⊥
+unfolding computing-laws
+lists-moving-refused = unlisted listsMoving held true refl refl
+
+-- `BSY?` that is told from the records, while bytes 4 and 5 stay 0.
+abbrev pub reckons : Library
+reckons =
+    withCommand
+    (λ t line reply.
+    let a = commandCall (sealed t) line reply in
+    record { result = a .result; table = withSet (a .table) 0; reply = a .reply })
+
+pub reckons-refused : AllDemand3 reckons → ⊥
+unfolding computing-laws
+reckons-refused = unlisted reckons scanning true refl refl
+
+-- A set that is not judged: a tick that is taken on a fresh table whose set has channel 0.
+abbrev pub trustsSets : Library
+trustsSets = withTick (λ t p. tickCall (sealed t) p)
+
+pub trusts-sets-refused : Numbers trustsSets → ⊥
+unfolding computing-laws
+trusts-sets-refused n =
+    let left = n .unsound (put freshTable 4 (1 ∷ [])) ticked refl refl in
+    let fact : _≡_ {A = ℕ} 0 6 = ap (λ (a : After). a .result) left in
+    absurd (omega (arith, fact))
+
+-- `BSY?` with the low byte first, or with channel 0 first: 0900 or 9000 where channels 0 and 3 are busy.
+abbrev pub tellsSet : (ℕ → List ℕ) → Library
+tellsSet text =
+    withCommand
+    (λ t line reply. cond (same line (bytes "BSY?")) (record { result = 1024; table = t; reply = put reply 0 (text (headOf t .busy)) }) (commandCall t line reply))
+
+-- bit c of a set as bit 15 - c
+abbrev pub turned : ℕ → ℕ
+turned n = bitsOf (λ c. isSet (15 - c) n) 16
+
+pub tells-turned-refused : (AllReplies (tellsSet (λ n. hexByte (n % 256) ++ hexByte (n / 256))) → ⊥) × (AllReplies (tellsSet (λ n. hexWord (turned n))) → ⊥)
+unfolding computing-laws
+tells-turned-refused = (
+  (λ r.
+      let told = r two (bytes "BSY?") (replicate 32 0) refl (omega arith) .headReads AskBusy refl in
+      let fact : _≡_ {A = ℕ} (code "9") (code "0") = ap (λ (a : After). getD (a .buffer) 1 0) told in
+      absurd (omega (arith, fact))),
+  (λ r.
+      let told = r two (bytes "BSY?") (replicate 32 0) refl (omega arith) .headReads AskBusy refl in
+      let fact : _≡_ {A = ℕ} (code "9") (code "0") = ap (λ (a : After). getD (a .buffer) 0 0) told in
+      absurd (omega (arith, fact))),
+)
+  where
+    two : List ℕ
+    two = ran urqolina lent (reading 3 0 ∷ scanning ++ (says "SCANN3" ∷ []))

@@ -3,6 +3,7 @@ use mathlib.Core.Path.{_≡_, refl, sym, _∙_}
 use mathlib.Core.Bool.{Bool, true, false, cond}
 use Prim.Native.Nat.{ℕ, zero, suc, _+_, _*_, _-_, _/_, _%_, _^_, _≤_, _<_}
 use native.Mathlib.Nat.{pow-suc, div-div-eq-div-mul}
+use native.Mathlib.Numerals.{add-one}
 use native.Mathlib.Omega.{arith}
 use lib.Bits.{bitAnd, bitOr, and-high, or-add-and}
 use lib.Pow.{pow-add}
@@ -17,6 +18,10 @@ worth b k = cond b (2 ^ k) 0
 -- A bit of a number is the bit before it of its half.
 next-bit : (c n : ℕ) → isSet (suc c) n ≡ isSet c (n / 2)
 next-bit c n = let e : 2 ^ suc c ≡ 2 * 2 ^ c = rw (pow-suc) (omega arith) in rw (e, ← div-div-eq-div-mul n 2 (2 ^ c))
+
+-- A number with its first bits left out, and one more of them.
+pub one-less : (n c : ℕ) → n / 2 ^ c / 2 ≡ n / 2 ^ (c + 1)
+one-less n c = rw (add-one c, pow-suc) (div-div-eq-div-mul n (2 ^ c) 2)
 
 -- A set of the numbers below k is below 2 ^ k.
 pub bits-below : (f : ℕ → Bool) (k : ℕ) → bitsOf f k < 2 ^ k

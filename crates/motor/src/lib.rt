@@ -26,6 +26,7 @@ use record::place_at;
 use record::read_drive;
 use record::read_limits;
 use record::read_motor;
+use std::num::wrapping_sub_u32;
 ghost use mathlib.Core.Path.{_≡_};
 ghost use mathlib.Core.Bool.{_&&_, not, cond};
 ghost use Prim.Native.Nat.{_≤_};
@@ -332,11 +333,12 @@ pub fn is_moving(m: Motor) -> bool
     if m.drive.held { false } else { is_busy(m) }
 }
 
-// Whether byte 32 is a drive's in a sound table: 3 and 4, held drives, under pause alone.
+// Whether byte 32 is a drive's in a sound table: 3 and 4, held drives, under pause alone. One less than 0 wraps, so that one comparison
+// leaves out both ends.
 fn way_right(paused: bool, n: u8) -> bool
     ensures { λ r. ⌜ r ≡ wayAllowed paused n ⌝ }
 {
-    (1 <= n) & ((n as u32) <= choose(paused, 4, 2))
+    wrapping_sub_u32(n as u32, 1) < choose(paused, 4, 2)
 }
 
 // Whether a record with a drive is sound in a table, its bytes from 48 on aside. Byte 44 is 1, and 45 to 47 are zero, just where

@@ -4,7 +4,6 @@
 pub mod head;
 
 use digits::places::ORIGIN;
-use digits::sets::has;
 use digits::sets::mark;
 use digits::words::zero_front;
 use head::is_paused;
@@ -32,7 +31,7 @@ ghost use lib.ListN.{length};
 ghost use Rattle.digits.specs.Bytes.{put, every, gather};
 ghost use Rattle.record.specs.Record.{recordOf, freshMotor};
 ghost use Rattle.record.specs.Progress.{flagsAndDrive, progressed};
-ghost use Rattle.motor.specs.Sound.{moving, soundRecord, soundUnder};
+ghost use Rattle.motor.specs.Sound.{busy, moving, soundRecord, soundUnder};
 ghost use Rattle.motor.specs.Judged.{soundListed};
 ghost use Rattle.table.specs.Layout.{tableSize, recordStart, recordAt, records, motorAt, busySet, sealed, withRecord, withMotor, freshTable};
 ghost use Rattle.table.specs.Marking.{markedAt};
@@ -66,9 +65,9 @@ pub fn is_standing_at(t: &[u8], c: u8) -> bool
     is_standing(&t[start..end])
 }
 
-// Whether the motor of a channel with a sound record moves.
+// Whether the motor of a busy channel with a sound record moves.
 pub fn is_moving_at(t: &[u8], c: u8) -> bool
-    requires { ⌜ (length (now t) ≡ tableSize) × (c ≤ 15) × (soundRecord (recordAt (now t) c) ≡ true) ⌝ }
+    requires { ⌜ (length (now t) ≡ tableSize) × (c ≤ 15) × (soundRecord (recordAt (now t) c) ≡ true) × (busy (motorAt (now t) c) ≡ true) ⌝ }
     ensures { λ r. ⌜ r ≡ moving (motorAt (now (t .entry)) c) ⌝ }
 {
     let start = record_start(c);
@@ -142,9 +141,11 @@ fn sound_count(paused: bool, set: u16, t: &[u8]) -> u8
     requires { ⌜ length (now t) ≡ tableSize ⌝ }
     ensures { λ r. ⌜ eqb r 16 ≡ (every (soundUnder paused) (records (now (t .entry))) && eqb set (busySet (now (t .entry)))) ⌝ }
 {
+    let mut left = set as u32;
     let mut judged: u8 = 0;
     while judged < 16 {
-        if sound_at(paused, has(set, judged), t, judged) {
+        if sound_at(paused, left % 2 == 1, t, judged) {
+            left = left / 2;
             judged += 1;
         } else {
             return judged;

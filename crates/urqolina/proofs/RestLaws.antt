@@ -4,8 +4,7 @@ use mathlib.Core.Path.{_≡_, refl, sym, ap, _∙_}
 use mathlib.Core.List.{List, _++_}
 use mathlib.Core.Bool.{Bool, true, false}
 use Prim.Native.Nat.{ℕ, zero, suc, _+_, _*_, _-_, _/_, _%_, _^_, _≤_, _<_}
-use native.Mathlib.Nat.{pow-suc, div-div-eq-div-mul, zero-div}
-use native.Mathlib.Numerals.{add-one}
+use native.Mathlib.Nat.{zero-div}
 use native.Mathlib.Omega.{arith}
 use lib.ListN.{length, replicate, length-replicate, replicate-append-replicate}
 use lib.Seq.{take-at, drop-at}
@@ -27,10 +26,7 @@ use Rattle.table.proofs.TableLaws.{upTo, up-to-length, up-to-record, up-to-moto
 use Rattle.table.proofs.KeptLaws.{motor-back}
 use Rattle.urqolina.proofs.CallLaws.{countsTo, counts-length, counts-next}
 
--- A set with the channels before c left out, with one more left out, and with none left.
-pub set-left : (n c : ℕ) → n / 2 ^ c / 2 ≡ n / 2 ^ (c + 1)
-set-left n c = rw (add-one c, pow-suc) (div-div-eq-div-mul n (2 ^ c) 2)
-
+-- A set with the channels before c left out: some are left, or none.
 pub some-left : (n c : ℕ) → n < 65536 → c ≤ 16 → (n / 2 ^ c ≡ 0 → ⊥) → c ≤ 15
 some-left n c l h some = go (eqb c 16) refl
   where

@@ -7,12 +7,13 @@ use native.Mathlib.Omega.{arith}
 use lib.ListN.{length}
 use borrow.Author.Needs.{needs}
 use Rattle.digits.specs.Bytes.{AllBytes, put}
+use Rattle.digits.proofs.SetLaws.{one-less}
 use Rattle.motor.specs.Sound.{busy, soundRecord}
 use Rattle.table.specs.Layout.{tableSize, headOf, recordAt, motorAt}
 use Rattle.table.proofs.SealLaws.{set-below}
 use Rattle.table.proofs.TableLaws.{upTo, up-to-none, up-to-record, up-to-motor, up-to-sealed, up-to-next, up-to-all, sound-length, sound-record-at, sound-set, sound-set-at, sound-sealed}
 use Rattle.urqolina.proofs.CallLaws.{countsTo, counts-none, counts-next, counts-all}
-use Rattle.urqolina.proofs.RestLaws.{ticked, noCounts, none-length, zeroed-counts, zero-count, set-left, some-left, none-left, rest-table, rest-counts}
+use Rattle.urqolina.proofs.RestLaws.{ticked, noCounts, none-length, zeroed-counts, zero-count, some-left, none-left, rest-table, rest-counts}
 use Rattle.urqolina.proofs.ticking.tick_all.Statement.{statement}
 use Rattle.urqolina.proofs.ticking.tick_all.Tie as tie
 
@@ -92,7 +93,7 @@ loop-again c =
       search needs,
       rw (d .tick-listed .ensures .0, l .loop .inv .3) (up-to-next ticked k t₀ whole h),
       rw (d .tick-listed .ensures .1, next, l .loop .inv .4) (counts-next k t₀ noCounts h none-length),
-      rw (l .loop .inv .5) (set-left (headOf t₀ .busy) k),
+      rw (l .loop .inv .5) (one-less (headOf t₀ .busy) k),
       λ j. c .before .before .slice-known4 .given j .fits,
     )
 
