@@ -43,6 +43,14 @@ allowed-way paused n e = go (leb n 2) refl paused (and-r (leb 1 n) _ e)
     go false l true h = (held (leb-false n 2 l) h, refl)
     go false l false h = absurd (false≢true h)
 
+pub allowed-most : (paused : Bool) (n : ℕ) → wayAllowed paused n ≡ true → n ≤ 4
+allowed-most paused n e = go (leb n 2) refl paused (and-r (leb 1 n) _ e)
+  where
+    go : (t : Bool) → leb n 2 ≡ t → (p : Bool) → (t || (p && leb n 4)) ≡ true → n ≤ 4
+    go true l p h = omega (arith, leb-true n 2 l)
+    go false l true h = leb-true n 4 h
+    go false l false h = absurd (false≢true h)
+
 way-allowed : (paused : Bool) (n : ℕ) → goingOf n ≤ 2 → (paused || not (heldOf n)) ≡ true → (goingOf n ≡ 0 → ⊥) → wayAllowed paused n ≡ true
 way-allowed paused n = go (eqb n 3) refl (eqb n 4) refl
   where

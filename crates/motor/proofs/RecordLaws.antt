@@ -1,19 +1,18 @@
 -- A sound motor and its record. Assumes nothing.
-use mathlib.Core.Path.{_≡_, refl, sym, _∙_}
+use mathlib.Core.Path.{_≡_, refl}
 use mathlib.Core.List.{List}
 use mathlib.Core.Bool.{Bool, true, false, _&&_, _||_, not, cond}
 use Prim.Native.Nat.{ℕ, zero, suc, _≤_}
 use native.Mathlib.Omega.{arith}
 use lib.ListN.{length}
-use lib.Dec.{eqb, leb}
-use borrow.Author.Tests.{eqb-true, le-leb}
+use lib.Dec.{eqb}
+use borrow.Author.Tests.{eqb-true}
 use Rattle.digits.specs.Bytes.{AllBytes}
 use Rattle.record.specs.declared.Motor.{Motor}
 use Rattle.record.specs.Record.{byteAt, goingOf, heldOf, motorOf, recordOf, restZero}
 use Rattle.record.proofs.RoundTrip.{FitsRecord, FitsBytes, FitsWay, way-fits, way-below, written-read, read-written, record-length, record-bytes, rest-clear}
 use Rattle.motor.specs.Sound.{busy, moving, soundMotor, soundRecord, heldRight, soundUnder}
 use Rattle.motor.proofs.SoundLaws.{and-l, and-r, sound-bounds, sound-busy, sound-standing}
-use Rattle.motor.proofs.MovingLaws.{busy-moves}
 
 -- The speed in force of a sound motor is 5,000,000 at most, driving or not.
 speed-in-force : (m : Motor) → soundMotor m ≡ true → m .drive .speed ≤ 5000000
@@ -65,15 +64,22 @@ pub record-motor-sound : (b : List ℕ) → soundRecord b ≡ true → soundMoto
 unfolding soundRecord
 record-motor-sound b s = and-r (eqb (length b) 64) _ (and-l _ (restZero b) s)
 
--- In a sound record with a drive byte 32 is 2 at most just where the motor moves.
-way-free : (n : ℕ) → goingOf n ≤ 2 → leb n 2 ≡ not (heldOf n)
-way-free n h = go (eqb n 3) refl (eqb n 4) refl h
+-- In a sound record byte 32 is 1 or 2 just where the motor moves.
+way-moves : (n : ℕ) → goingOf n ≤ 2 → (eqb n 1 || eqb n 2) ≡ (not (eqb (goingOf n) 0) && not (heldOf n))
+way-moves n h = go (eqb n 3) refl (eqb n 4) refl h
   where
-    go : (a : Bool) → eqb n 3 ≡ a → (b : Bool) → eqb n 4 ≡ b → cond a 1 (cond b 2 n) ≤ 2 → leb n 2 ≡ not (a || b)
+    few : (k : ℕ) → k ≤ 2 → (eqb k 1 || eqb k 2) ≡ (not (eqb k 0) && true)
+    few zero l = refl
+    few (suc zero) l = refl
+    few (suc (suc zero)) l = refl
+    few (suc (suc (suc k))) l = absurd (omega arith)
+
+    go : (a : Bool) → eqb n 3 ≡ a → (b : Bool) → eqb n 4 ≡ b → cond a 1 (cond b 2 n) ≤ 2
+        → (eqb n 1 || eqb n 2) ≡ (not (eqb (cond a 1 (cond b 2 n)) 0) && not (a || b))
     go true a b f l = rw (eqb-true n 3 a)
     go false a true b l = rw (eqb-true n 4 b)
-    go false a false b l = le-leb n 2 l
+    go false a false b l = few n l
 
-pub record-moves : (b : List ℕ) → soundRecord b ≡ true → busy (motorOf b) ≡ true → leb (byteAt b 32) 2 ≡ moving (motorOf b)
-unfolding motorOf
-record-moves b s d = way-free (byteAt b 32) (sound-bounds (motorOf b) (record-motor-sound b s) .going) ∙ sym (busy-moves (motorOf b) d)
+pub record-moves : (b : List ℕ) → soundRecord b ≡ true → (eqb (byteAt b 32) 1 || eqb (byteAt b 32) 2) ≡ moving (motorOf b)
+unfolding moving motorOf
+record-moves b s = way-moves (byteAt b 32) (sound-bounds (motorOf b) (record-motor-sound b s) .going)

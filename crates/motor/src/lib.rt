@@ -36,7 +36,7 @@ ghost use lib.ListN.{length};
 ghost use Rattle.digits.specs.Bytes.{part, allZero};
 ghost use Rattle.digits.specs.Words.{word};
 ghost use Rattle.digits.specs.Places.{cw, isPosition};
-ghost use Rattle.record.specs.Record.{motorOf};
+ghost use Rattle.record.specs.Record.{byteAt, motorOf};
 ghost use Rattle.motor.specs.Switches.{switchOf, unread, active, blocked, rangeEnd, edge, room};
 ghost use Rattle.motor.specs.Sound.{isSpeed, limitsInRange, wiringInRange, setupInRange, settingsInRange, endFlagsInRange};
 ghost use Rattle.motor.specs.Sound.{busy, moving};
@@ -304,7 +304,7 @@ fn is_free(going: u8, b: &[u8]) -> bool
 // Whether a driving record keeps the rules for one, byte 32, its contacts, its speeds and its fields of one byte aside. Each direction
 // has a branch of its own, so that the machine code asks for it once and not at every rule.
 fn drives_right(b: &[u8]) -> bool
-    requires { ⌜ length (now b) ≡ 64 ⌝ }
+    requires { ⌜ (length (now b) ≡ 64) × (byteAt (now b) 32 ≤ 4) ⌝ }
     ensures { λ r. ⌜ r ≡ drivesRight (motorOf (now (b .entry))) ⌝ }
 {
     let d = read_drive(b);

@@ -13,8 +13,9 @@ use digits::words::put_long;
 use digits::words::put_short;
 use digits::words::short_at;
 ghost use mathlib.Core.Path.{_≡_};
+ghost use mathlib.Core.Bool.{_||_};
 ghost use Prim.Native.Nat.{_+_, _≤_};
-ghost use lib.Dec.{eqb, leb};
+ghost use lib.Dec.{eqb};
 ghost use lib.ListN.{length};
 ghost use Rattle.digits.specs.Bytes.{put};
 ghost use Rattle.digits.specs.Places.{cw};
@@ -213,21 +214,21 @@ pub fn is_standing(b: &[u8]) -> bool
     byte_at(b, 32) == 0
 }
 
-// Whether the drive of a record goes, CW or CCW, and is not held, by its byte 32. A record without one is not asked.
+// Whether a record holds a drive that goes, CW or CCW, by its byte 32.
 pub fn is_going(b: &[u8]) -> bool
     requires { ⌜ length (now b) ≡ 64 ⌝ }
-    ensures { λ r. ⌜ r ≡ leb (byteAt (now (b .entry)) 32) 2 ⌝ }
-{
-    byte_at(b, 32) <= 2
-}
-
-// Whether a record holds a drive CW, going or held, by its byte 32.
-pub fn is_cw(b: &[u8]) -> bool
-    requires { ⌜ length (now b) ≡ 64 ⌝ }
-    ensures { λ r. ⌜ r ≡ eqb (driveOf (now (b .entry)) .going) cw ⌝ }
+    ensures { λ r. ⌜ r ≡ (eqb (byteAt (now (b .entry)) 32) 1 || eqb (byteAt (now (b .entry)) 32) 2) ⌝ }
 {
     let way = byte_at(b, 32);
-    (way == 1) | (way == 3)
+    (way == 1) | (way == 2)
+}
+
+// Whether a record holds a drive CW, going or held, by its byte 32: of 0 to 4 those that tell CW are odd.
+pub fn is_cw(b: &[u8]) -> bool
+    requires { ⌜ (length (now b) ≡ 64) × (byteAt (now b) 32 ≤ 4) ⌝ }
+    ensures { λ r. ⌜ r ≡ eqb (driveOf (now (b .entry)) .going) cw ⌝ }
+{
+    byte_at(b, 32) % 2 == 1
 }
 
 // Writes the signed number of a place into the four bytes from an offset on.

@@ -31,7 +31,7 @@ ghost use lib.ListN.{length};
 ghost use Rattle.digits.specs.Bytes.{put, every, gather};
 ghost use Rattle.record.specs.Record.{recordOf, freshMotor};
 ghost use Rattle.record.specs.Progress.{flagsAndDrive, progressed};
-ghost use Rattle.motor.specs.Sound.{busy, moving, soundRecord, soundUnder};
+ghost use Rattle.motor.specs.Sound.{moving, soundRecord, soundUnder};
 ghost use Rattle.motor.specs.Judged.{soundListed};
 ghost use Rattle.table.specs.Layout.{tableSize, recordStart, recordAt, records, motorAt, busySet, sealed, withRecord, withMotor, freshTable};
 ghost use Rattle.table.specs.Marking.{markedAt};
@@ -65,9 +65,9 @@ pub fn is_standing_at(t: &[u8], c: u8) -> bool
     is_standing(&t[start..end])
 }
 
-// Whether the motor of a busy channel with a sound record moves.
+// Whether the motor of a channel with a sound record moves.
 pub fn is_moving_at(t: &[u8], c: u8) -> bool
-    requires { ⌜ (length (now t) ≡ tableSize) × (c ≤ 15) × (soundRecord (recordAt (now t) c) ≡ true) × (busy (motorAt (now t) c) ≡ true) ⌝ }
+    requires { ⌜ (length (now t) ≡ tableSize) × (c ≤ 15) × (soundRecord (recordAt (now t) c) ≡ true) ⌝ }
     ensures { λ r. ⌜ r ≡ moving (motorAt (now (t .entry)) c) ⌝ }
 {
     let start = record_start(c);

@@ -53,11 +53,10 @@ fn drive_channel(t: &mut [u8], pulses: &mut [u8], c: u8, m: Motor)
     );
 }
 
-// Ticks a busy channel whose count is 0 so far. A motor that is held gets no pulse, and its record is left unwritten: a tick leaves it as
-// it is.
+// Ticks a channel whose count is 0 so far. A motor that is held gets no pulse, and its record is left unwritten: a tick leaves it as it is.
 fn tick_channel(t: &mut [u8], pulses: &mut [u8], c: u8)
     requires { ⌜ (length (now t) ≡ tableSize) × (length (now pulses) ≡ 64) × (c ≤ 15) × (sealed (now t) ≡ now t) ⌝ }
-    requires { ⌜ (soundRecord (recordAt (now t) c) ≡ true) × (part (now pulses) (4 * c) 4 ≡ wordBytes 4 0) × (busy (motorAt (now t) c) ≡ true) ⌝ }
+    requires { ⌜ (soundRecord (recordAt (now t) c) ≡ true) × (part (now pulses) (4 * c) 4 ≡ wordBytes 4 0) ⌝ }
     ensures { λ _. ⌜ now (t .exit) ≡ withMotor (now (t .entry)) c (tickMotor (motorAt (now (t .entry)) c) .motor) ⌝ }
     ensures { λ _. ⌜ now (pulses .exit) ≡ put (now (pulses .entry)) (4 * c) (wordBytes 4 (tickCount (motorAt (now (t .entry)) c))) ⌝ }
 {
@@ -91,7 +90,7 @@ pub fn tick_all(t: &mut [u8], pulses: &mut [u8])
     let mut c: u8 = 0;
     while left != 0 {
         tick_listed(t, pulses, left % 2 == 1, c);
-        left = left / 2;
         c += 1;
+        left = left / 2;
     }
 }

@@ -1,6 +1,8 @@
 -- `motor::driving_sound` meets its contract. Assumes nothing.
+use mathlib.Core.Path.{sym, _∙_}
 use borrow.Author.Tests.{eq-eqb, ne-eqb}
 use borrow.Author.Needs.{needs}
+use Rattle.motor.proofs.DrivingLaws.{allowed-most}
 use Rattle.motor.proofs.driving_sound.Statement.{statement}
 use Rattle.motor.proofs.driving_sound.Tie as tie
 
@@ -14,7 +16,11 @@ way-right-requires : tie.Need-way-right-requires
 way-right-requires c κs = search needs
 
 drives-right-requires : tie.Need-drives-right-requires
-drives-right-requires c κs = search needs
+drives-right-requires c κs =
+    let w = c .before in
+    let a = w .before .before .before .before .before in
+    let way = sym (w .way-right .ensures) ∙ c .if2 .taken in
+    (a .pre, rw (← w .before .byte-at .ensures) (allowed-most (a .args .paused) (w .before .byte-at .result) way))
 
 fields-in-range-requires : tie.Need-fields-in-range-requires
 fields-in-range-requires c κs = search needs

@@ -29,7 +29,7 @@ returns : tie.Need-returns
 unfolding motorAt part
 returns c =
     let a = c .before .before .before .before in
-    rw (c .is-going .ensures, c .before .before .record-start .ensures, add-sub-cancel-left) (record-moves (recordAt (a .args .t .now) (a .args .c)) (a .pre .2) (a .pre .3))
+    rw (c .is-going .ensures, c .before .before .record-start .ensures, add-sub-cancel-left) (record-moves (recordAt (a .args .t .now) (a .args .c)) (a .pre .2))
 
 pub is-moving-at-spec : {M : Type 1} → statement M
 is-moving-at-spec =

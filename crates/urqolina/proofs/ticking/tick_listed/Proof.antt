@@ -10,10 +10,7 @@ use Rattle.urqolina.proofs.ticking.tick_listed.Statement.{statement}
 use Rattle.urqolina.proofs.ticking.tick_listed.Tie as tie
 
 tick-channel-requires : tie.Need-tick-channel-requires
-tick-channel-requires c κs =
-    let i = c .before .before in
-    let a = i .before .before .before in
-    (a .pre .0, (a .pre .1 .0, a .pre .1 .1, sym (a .pre .1 .2) ∙ i .if1 .taken))
+tick-channel-requires c κs = search needs
 
 same-length : tie.Need-same-length
 same-length c = search needs
