@@ -1,5 +1,6 @@
 // Hex digits, in capitals.
 ghost use mathlib.Core.Path.{_≡_};
+ghost use mathlib.Core.List.{_++_};
 ghost use Prim.Native.Nat.{_%_, _≤_};
 ghost use lib.ListN.{length};
 ghost use Rattle.digits.specs.Bytes.{put};
@@ -22,11 +23,19 @@ pub fn write_hex(out: &mut [u8], n: u8)
     out[1] = hex_digit(n);
 }
 
+// Two bytes in two digits each, one after the other.
+fn write_hex_pair(out: &mut [u8], a: u8, b: u8)
+    requires { ⌜ 4 ≤ length (now out) ⌝ }
+    ensures { λ _. ⌜ now (out .exit) ≡ put (now (out .entry)) 0 (hexByte a ++ hexByte b) ⌝ }
+{
+    write_hex(out, a);
+    write_hex(&mut out[2..], b);
+}
+
 // A number of two bytes in four digits, at the front of the buffer.
 pub fn write_hex_word(out: &mut [u8], n: u16)
     requires { ⌜ 4 ≤ length (now out) ⌝ }
     ensures { λ _. ⌜ now (out .exit) ≡ put (now (out .entry)) 0 (hexWord n) ⌝ }
 {
-    write_hex(out, (n / 256) as u8);
-    write_hex(&mut out[2..], (n % 256) as u8);
+    write_hex_pair(out, (n / 256) as u8, (n % 256) as u8);
 }
