@@ -57,7 +57,7 @@ const struct step tour[] = {
     {.kind = COMMAND, .number = 0, .line = "BSY?"},
     {.kind = COMMAND, .number = 0, .before = "S 0 0;REM;SCANP0", .line = "BSY?"},
     {.kind = COMMAND, .number = 0, .before = "S 0 0;S 3 0;S F 0;REM;REL0+1;SCANP3;PAUSE ON;SCANNF", .line = "BSY?"},
-    {.kind = COMMAND, .number = 0, .before = "S 9 0;S E 0;REM;PAUSE ON;SCANN9;SCANPE;PAUSE OFF", .line = "BSY?"},
+    {.kind = COMMAND, .number = 0, .before = "S 9 0;S B 0;REM;PAUSE ON;SCANN9;SCANPB;PAUSE OFF", .line = "BSY?"},
     {.kind = COMMAND, .number = 0, .before = "S 0 0;REM;REL0+0;ABS0+0;SSTP0", .line = "BSY?"},
     {.kind = COMMAND, .number = 0, .before = "S 0 0;S B 0;REM;REL0+1;SCANPB;T 2", .line = "BSY?"},
     {.kind = COMMAND, .number = 0, .before = "S 0 0;REM;SETLS011110000;FL0+1;SCANP0;T 2", .line = "BSY?"},

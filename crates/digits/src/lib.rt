@@ -1,5 +1,5 @@
-// Numbers of the bench: words of bytes, low byte first; positions as places; and a few choices between numbers that the other
-// crates are written with. What they are is said in specs/.
+// Numbers of the bench: words of bytes, low byte first; positions as places; sets of channels; and a few choices between numbers
+// that the other crates are written with. What they are is said in specs/.
 
 pub mod places;
 pub mod sets;
