@@ -8,7 +8,7 @@
  *
  * What is held against each of the two besides: no byte outside a lent buffer is touched, read or written (bytes of a known
  * value around it, and pages that can't be touched beside those), a line is never written, 5 and 6 write nothing, every other
- * refusal writes its error flag and its text alone, the bytes past a reply stay, and after every other call the busy set is true.
+ * refusal writes its error flag and its text alone, the bytes past a reply stay, and after every call but a 5 or a 6 the busy set is true.
  *
  * Where MODEL_ALONE is defined the model stands on both sides: for the sanitizers, which the library is not built for.
  */

@@ -837,6 +837,25 @@ pub reckons-refused : AllDemand3 reckons → ⊥
 unfolding computing-laws
 reckons-refused = unlisted reckons scanning true refl refl
 
+-- A line after which the head has another set than it should.
+abbrev pub setsAfter : S.String → ℕ → Library
+setsAfter wrong n =
+    withCommand
+    (λ t line reply.
+    let a = commandCall t line reply in
+    record { result = a .result; table = cond (same line (bytes wrong)) (withSet (a .table) n) (a .table); reply = a .reply })
+
+-- A start that puts its neighbour into the set besides, PAUSE ON that empties it, and SPC that takes its channel out.
+pub sets-after-refused : (Neighbours (setsAfter "SCANP0" 3) → ⊥) × (Neighbours (setsAfter "PAUSE ON" 0) → ⊥) × (Neighbours (setsAfter "SPC0400" 0) → ⊥)
+unfolding computing-laws
+sets-after-refused = (
+  (λ n. false≢true (sym (n .otherBits (ran urqolina lent ready) (bytes "SCANP0") (replicate 32 0) (Go 0 (Scan cw)) 0 1 (omega arith) refl refl (λ e. absurd (omega (arith, e)))))),
+  (λ n.
+      let fact : _≡_ {A = ℕ} 0 1 = n .headSet (ran urqolina lent scanning) (bytes "PAUSE ON") (replicate 32 0) (ForHead (Pause 1)) refl refl in
+      absurd (omega (arith, fact))),
+  (λ n. false≢true (sym (n .cleared (ran urqolina lent scanning) (says "SPC0400") 0 (omega arith) refl refl .1))),
+)
+
 -- A set that is not judged: a tick that is taken on a fresh table whose set has channel 0.
 abbrev pub trustsSets : Library
 trustsSets = withTick (λ t p. tickCall (sealed t) p)

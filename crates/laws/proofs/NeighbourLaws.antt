@@ -40,10 +40,12 @@ use Rattle.obeying.specs.Taking.{refused, obeyed}
 use Rattle.urqolina.specs.Calls.{commandCall, readingCall, tickCall}
 use Rattle.laws.specs.Sequences.{urqolina, Call, command, reading, tick, After, after}
 use Rattle.laws.specs.Deeds.{Deed, starts, stops, speeds, sets, reads, ticks, pauses, rests, deedIf, names, headDeed, deedOf, deed}
-use Rattle.laws.specs.Neighbours.{ofHead, listed, HeadLeft, Cleared, Neighbours}
+use Rattle.laws.specs.Ledger.{setsOff}
+use Rattle.laws.specs.Neighbours.{ofHead, listed, HeadLeft, Neighbours}
 use Rattle.laws.specs.Numbers.{isCommand, sizesRight}
 use Rattle.laws.proofs.PartLaws.{Beside, motor-beside, motors-beside, motors-record}
 use Rattle.laws.proofs.DeedLaws.{performed, pausedIn, set-drive}
+use Rattle.laws.proofs.AccountLaws.{off-stays}
 use Rattle.laws.proofs.Following.{next}
 use Rattle.laws.proofs.NumberLaws.{numbers}
 use Rattle.laws.proofs.CallWays.{silent-other, command-ways, reading-ways, tick-ways}
@@ -298,10 +300,14 @@ tick-before m b = go (moving m) refl
     go true e = moving-busy m e
     go false e = let same : tickMotor m .motor ≡ m = rw (stopped-given-none m e) in rw same at b
 
--- A deed that is no start leaves a motor that was not busy so.
-busy-before : (p : Bool) (m : Motor) (d : Deed) → ((s : Start) → d ≡ starts s → ⊥) → busy (performed p m d) ≡ true → busy m ≡ true
+-- A deed that sets nothing off leaves a motor that was not busy so.
+busy-before : (p : Bool) (m : Motor) (d : Deed) → ((s : Start) → d ≡ starts s → setsOff m s ≡ true → ⊥) → busy (performed p m d) ≡ true → busy m ≡ true
 unfolding performed speedChanged
-busy-before p m (starts s) idle b = absurd (idle s refl)
+busy-before p m (starts s) idle b = go (setsOff m s) refl
+  where
+    go : (t : Bool) → setsOff m s ≡ t → busy m ≡ true
+    go true e = absurd (idle s refl e)
+    go false e = rw (off-stays p m s e) at b
 busy-before p m (stops f) idle b = go (busy m) refl
   where
     go : (t : Bool) → busy m ≡ t → t ≡ true
@@ -318,19 +324,26 @@ busy-before p m (pauses k) idle b = go (eqb k 0) b
     go false q = q
 busy-before p m rests idle b = b
 
-clears : (t : List ℕ) (k : Call) (d : ℕ) → d ≤ 15 → ((s : Start) → deed d t k ≡ starts s → ⊥) → Cleared d t (after urqolina t k .table)
-clears t k d h idle = go (soundTable t) refl
-  where
-    u : List ℕ
-    u = after urqolina t k .table
+-- The bit of a channel tells on a sound table whether it is busy, before the call and after it; on another table the call leaves it.
+module _ (t : List ℕ) (k : Call) (d : ℕ) (h : d ≤ 15) where
+  abbrev u : List ℕ
+  u = after urqolina t k .table
 
-    go : (b : Bool) → soundTable t ≡ b → Cleared d t (after urqolina t k .table)
-    go true s =
-        let was = sound-set-at t d s h in
-        let is = sound-set-at u d (next t k s .sound) h in
-        let motor = next t k s .follows d h .motor in
-        (λ q. was ∙ busy-before (pausedIn t) (motorAt t d) (deed d t k) idle (rw (motor) at (sym is ∙ q)), λ q r. (sym was ∙ q, sym is ∙ r))
-    go false s = rw (unsound-left t k s) (λ q. q, λ q r. absurd (false≢true (sym r ∙ q)))
+  raises : ((s : Start) → deed d t k ≡ starts s → setsOff (motorAt t d) s ≡ true → ⊥) → listed d u ≡ true → listed d t ≡ true
+  raises idle q = go (soundTable t) refl
+    where
+      go : (b : Bool) → soundTable t ≡ b → listed d t ≡ true
+      go true s =
+          let is : busy (motorAt u d) ≡ true = sym (sound-set-at u d (next t k s .sound) h) ∙ q in
+          sound-set-at t d s h ∙ busy-before (pausedIn t) (motorAt t d) (deed d t k) idle (rw (next t k s .follows d h .motor) at is)
+      go false s = rw (unsound-left t k s) at q
+
+  clears : listed d t ≡ true → listed d u ≡ false → (busy (motorAt t d) ≡ true) × (busy (motorAt u d) ≡ false)
+  clears q r = go (soundTable t) refl
+    where
+      go : (b : Bool) → soundTable t ≡ b → (busy (motorAt t d) ≡ true) × (busy (motorAt u d) ≡ false)
+      go true s = (sym (sound-set-at t d s h) ∙ q, sym (sound-set-at u d (next t k s .sound) h) ∙ r)
+      go false s = absurd (false≢true (sym (rw (unsound-left t k s) at r) ∙ q))
 
 -- A reading leaves the other records.
 reading-others : (t : List ℕ) (c n d : ℕ) → (d ≡ c → ⊥) → recordAt (readingCall t c n .table) d ≡ recordAt t d
@@ -353,5 +366,6 @@ neighbours = record {
   otherBits = λ t line reply o x d h e n ne.
       unfold after in same-bit t (command line reply) d h (same-motor t _ d (unreached t line reply o d e (named-rests o x d n ne)));
   readBits = λ t c n d h ne. unfold after in same-bit t (reading c n) d h (same-motor t _ d (reading-others t c n d ne));
+  raised = raises;
   cleared = clears;
 }

@@ -15,6 +15,7 @@ use Rattle.line.specs.Forms.{orderOf}
 use Rattle.table.specs.Layout.{headOf, recordAt, motorAt}
 use Rattle.laws.specs.Sequences.{Library, Call, command, reading, tick, after}
 use Rattle.laws.specs.Deeds.{starts, stops, pauses, rests, names, deedOf, deed}
+use Rattle.laws.specs.Ledger.{setsOff}
 use Rattle.laws.specs.Numbers.{isCommand}
 
 -- an order of the head: LOC, REM, ALL_REP EN and DS, ERRC and ERRCe, PAUSE ON and OFF
@@ -35,12 +36,6 @@ listed c t = isSet c (headOf t .busy)
 -- the head is left but for that set, in "head bytes 4-5"
 abbrev pub HeadLeft : List ℕ → List ℕ → Type 0
 HeadLeft t u = (part u 0 4 ≡ part t 0 4) × (part u 6 58 ≡ part t 6 58)
-
--- a channel is not put into the set, and is taken out only where its drive ends
-abbrev pub Cleared : ℕ → List ℕ → List ℕ → Type 0
-Cleared c t u =
-    (listed c u ≡ true → listed c t ≡ true)
-    × (listed c t ≡ true → listed c u ≡ false → (busy (motorAt t c) ≡ true) × (busy (motorAt u c) ≡ false))
 
 -- Demand 2, what a call leaves byte for byte, on any table whatever it holds
 pub record Neighbours (l : Library) : Type 0 where
@@ -75,5 +70,9 @@ pub record Neighbours (l : Library) : Type 0 where
   pub otherBits : (t line reply : List ℕ) (o : Order) (x d : ℕ) → d ≤ 15 → orderOf line ≡ Is o → names x o ≡ true → (d ≡ x → ⊥)
       → listed d (l .command t line reply .table) ≡ listed d t
   pub readBits : (t : List ℕ) (c n d : ℕ) → d ≤ 15 → (d ≡ c → ⊥) → listed d (l .reading t c n .table) ≡ listed d t
-  -- and only an accepted start of its channel sets a bit: ASSTP, AESTP, a tick and all else clear bits of drives that end, and no other
-  pub cleared : (t : List ℕ) (k : Call) (d : ℕ) → d ≤ 15 → ((s : Start) → deed d t k ≡ starts s → ⊥) → Cleared d t (after l t k .table)
+  -- only an accepted start that sets its channel off puts it into the set, so REL 0 and ABS to the present position do not
+  pub raised : (t : List ℕ) (k : Call) (d : ℕ) → d ≤ 15 → ((s : Start) → deed d t k ≡ starts s → setsOff (motorAt t d) s ≡ true → ⊥)
+      → listed d (after l t k .table) ≡ true → listed d t ≡ true
+  -- and a channel is taken out of it only where its drive ends
+  pub cleared : (t : List ℕ) (k : Call) (d : ℕ) → d ≤ 15 → listed d t ≡ true → listed d (after l t k .table) ≡ false
+      → (busy (motorAt t d) ≡ true) × (busy (motorAt (after l t k .table) d) ≡ false)

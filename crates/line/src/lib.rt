@@ -155,6 +155,7 @@ pub enum HeadQuestion {
     AskError,
     // PAUSE?
     AskPause,
+    // BSY?
     AskBusy,
 }
 

@@ -67,8 +67,8 @@ held-under-pause :
 unfolding computing-table holding away scanning
 held-under-pause = (refl, refl)
 
--- 02 §6: "bit c for channel c, held drives included", and "a wrong set is 6": of a table with channel 11 scanning or held, and with
--- channels 0 and 15 besides, only the set of its busy channels is taken, low byte first
+-- 02 §6: "bit c for channel c, held drives included", and "a wrong set is 6": of a table with channel 11 scanning or held
+-- only that set is taken, low byte first; with channels 0 and 15 written besides the set has the three, and with 11 at rest none
 busy-sets :
     (map (λ w. soundTable (put away 4 w)) ((0 ∷ 8 ∷ []) ∷ (0 ∷ 0 ∷ []) ∷ (8 ∷ 0 ∷ []) ∷ (0 ∷ 9 ∷ []) ∷ (1 ∷ 8 ∷ []) ∷ (0 ∷ 16 ∷ []) ∷ (255 ∷ 255 ∷ []) ∷ [])
     ≡ true ∷ false ∷ false ∷ false ∷ false ∷ false ∷ false ∷ [])

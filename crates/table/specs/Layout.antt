@@ -21,7 +21,7 @@ unfoldable pub headOf : List ℕ → Head
 headOf t =
     record { mode = word (part t 0 1); reply = word (part t 1 1); errors = word (part t 2 1); pause = word (part t 3 1); busy = word (part t 4 2) }
 
--- "Numbers are little-endian": the busy set as it is written
+-- "Numbers are little-endian": the busy set as it is written, in two bytes
 abbrev pub setBytes : ℕ → List ℕ
 setBytes n = n % 256 ∷ n / 256 ∷ []
 
@@ -89,7 +89,7 @@ sealed t = put t 4 (setBytes (busySet t))
 abbrev pub withRecord : List ℕ → ℕ → List ℕ → List ℕ
 withRecord t c b = put t (recordStart c) b
 
--- the table with channel c's record written anew, and the busy set kept
+-- the table with channel c's record written anew, and the set of the busy channels in its head
 unfoldable pub withMotor : List ℕ → ℕ → Motor → List ℕ
 withMotor t c m = sealed (withRecord t c (recordOf m))
 
@@ -97,7 +97,7 @@ withMotor t c m = sealed (withRecord t c (recordOf m))
 abbrev pub records : List ℕ → List (List ℕ)
 records t = pieces 64 16 (drop 64 t)
 
--- the table with each of the sixteen motors changed, and the busy set kept
+-- the table with each of the sixteen motors changed, and the set of the busy channels in its head
 unfoldable pub withMotors : List ℕ → (Motor → Motor) → List ℕ
 withMotors t f = sealed (take 64 t ++ flatMap (λ r. recordOf (f (motorOf r))) (records t))
 

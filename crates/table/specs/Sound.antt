@@ -19,7 +19,7 @@ unfoldable pub soundHead : List ℕ → Bool
 soundHead t = headInRange (headOf t) && allZero (part t headUsed headRest)
 
 -- "A table is *sound* when ..": its length, its head and all of its records; 02 §3: "a held record is sound only under pause"; 02 §6:
--- "Soundness asks that it is true", the busy set
+-- "Soundness asks that it is true" of the busy set, "a wrong set is 6"
 unfoldable pub soundTable : List ℕ → Bool
 soundTable t =
     eqb (length t) tableSize && soundHead t && every (soundUnder (paused (headOf t))) (records t) && eqb (headOf t .busy) (busySet t)

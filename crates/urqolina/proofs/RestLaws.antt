@@ -43,7 +43,7 @@ none-left n c d e h =
 abbrev pub ticked : Motor → Motor
 ticked m = tickMotor m .motor
 
--- A tick leaves a table at a channel that is not busy.
+-- A tick leaves a table at a channel that does not move, stopped or held.
 pub idle-table : (t : List ℕ) (c : ℕ) → length t ≡ tableSize → c ≤ 15 → sealed t ≡ t → soundRecord (recordAt t c) ≡ true → AllBytes t
     → moving (motorAt t c) ≡ false → withMotor t c (ticked (motorAt t c)) ≡ t
 idle-table t c e h seal s bytes still =
