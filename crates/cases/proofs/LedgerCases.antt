@@ -124,15 +124,15 @@ way-on :
 unfolding computing-laws
 way-on = (refl, refl)
 
--- Tables for deeds: fresh, in local mode; in remote mode, with channel 0 read; and with channel 0 driving.
+-- Tables for deeds: fresh, in local mode; in remote mode, with channel 0 read; and with channel 0 driving. They are made unjudged.
 unfoldable localTable : List ℕ
 localTable = fromFresh urqolina lent
 
 unfoldable remoteTable : List ℕ
-remoteTable = ran urqolina lent ready
+remoteTable = ran unjudged lent ready
 
 unfoldable drivingTable : List ℕ
-drivingTable = ran urqolina lent (ready ++ (says "SCANP0" ∷ []))
+drivingTable = ran unjudged lent (ready ++ (says "SCANP0" ∷ []))
 
 abbrev plus : ℕ → Written
 plus n = record { minus = false; digits = n }
@@ -179,7 +179,7 @@ driving-deeds = refl
 -- 02 §3: the lines of pause are to every channel what they make of pause, in remote mode; on a held channel a start or a setting is
 -- refused (2), REL 0 and ABS to the present position too, and SPC, a stop and a reading are taken.
 unfoldable heldTable : List ℕ
-heldTable = ran urqolina lent (ready ++ (says "PAUSE ON" ∷ says "SCANP0" ∷ []))
+heldTable = ran unjudged lent (ready ++ (says "PAUSE ON" ∷ says "SCANP0" ∷ []))
 
 pause-deeds :
     (map (deed 5 remoteTable) (says "PAUSE ON" ∷ says "PAUSE OFF" ∷ says "PAUSE?" ∷ says "PAUSE" ∷ []) ≡ pauses 1 ∷ pauses 0 ∷ rests ∷ rests ∷ [])
@@ -251,7 +251,7 @@ awaiting = ready ++ (says "PAUSE ON" ∷ says "REL0+3" ∷ says "SPC01000" ∷ [
 
 last-from-release :
     (lastTick urqolina lent 0 awaiting (origin + 3) [] ≡ 3)
-    × (ticksIn urqolina 0 (ran urqolina lent awaiting) (accountAfter awaiting) (ticked ∷ ticked ∷ ticked ∷ says "PAUSE OFF" ∷ ticked ∷ ticked ∷ []) ≡ 2)
+    × (ticksIn urqolina 0 (ran unjudged lent awaiting) (accountAfter awaiting) (ticked ∷ ticked ∷ ticked ∷ says "PAUSE OFF" ∷ ticked ∷ ticked ∷ []) ≡ 2)
     × (accountAfter awaiting ≡ aimedAt (origin + 3) (waiting cw 1000))
 unfolding computing-laws accountAfter
 last-from-release = (refl, refl, refl)

@@ -2,7 +2,7 @@
 -- lines, or answers OK to all ..; a tick that does nothing ..; one that runs the first drive and feigns the rest ..; invented pulse
 -- counts or reply lengths"; three of the "Errors that look right"; some that would keep to the sums and still be of no use; and some
 -- that misread a request of document 02. Each is ours with one call replaced, and is refused on one short sequence, by computing it.
--- Assumes nothing.
+-- Where a demand is of any table, the table that refuses the library is made without judging it at each call. Assumes nothing.
 use Prim.Native.Char.{code}
 use Prim.Native.Nat.{ℕ, _+_, _*_, _-_, _/_, _%_, _≤_, _<_}
 use Prim.Native.String as S
@@ -50,6 +50,7 @@ use Rattle.laws.specs.Pulses.{motorNow, accountNow, travelNow, settingsNow, End
 use Rattle.laws.specs.Contacts.{toldNow, Contacts}
 use Rattle.laws.proofs.NumberLaws.{numbers}
 use Rattle.cases.proofs.Beginnings.{lent, says, ticked, ready, running, underPause}
+use Rattle.cases.proofs.Unjudged.{unjudged}
 
 -- Demand 3 for every channel and every sequence, and read-back for every sequence and every read that is lent enough.
 abbrev pub AllDemand3 : Library → Type 0
@@ -464,10 +465,10 @@ swaps-limits-refused r =
 
 -- 02 §1, "Wherever a form takes ±d, let a bare d mean plus", misread. On tables with channel 0 standing ready, and under way:
 abbrev standing : List ℕ
-standing = ran urqolina lent ready
+standing = ran unjudged lent ready
 
 abbrev underway : List ℕ
-underway = ran urqolina lent scanning
+underway = ran unjudged lent scanning
 
 -- A library is refused if it takes a line that has no form,
 takes-formless : (l : Library) (t line : List ℕ) → sizesRight t (command line (replicate 32 0xaa)) ≡ true → soundTable t ≡ true → orderOf line ≡ Nothing
@@ -545,10 +546,10 @@ forgets-refused = (
 
 -- Channel 0 in remote mode, not read: where it was made, and at the end of the range.
 abbrev unreadTable : List ℕ
-unreadTable = ran urqolina lent (says "REM" ∷ [])
+unreadTable = ran unjudged lent (says "REM" ∷ [])
 
 abbrev unreadAtEnd : List ℕ
-unreadAtEnd = ran urqolina lent (says "REM" ∷ says "PS0+2147483647" ∷ [])
+unreadAtEnd = ran unjudged lent (says "REM" ∷ says "PS0+2147483647" ∷ [])
 
 -- A library is refused if it gives a line another number than the rules.
 numbered-other : (l : Library) (t line : List ℕ) (o : Order) (n m : ℕ) → sizesRight t (command line (replicate 32 0xaa)) ≡ true → soundTable t ≡ true
@@ -576,7 +577,7 @@ asksEnabled =
 pub asks-enabled-refused : Numbers asksEnabled → ⊥
 unfolding computing-laws
 asks-enabled-refused =
-    numbered-other asksEnabled (ran urqolina lent (says "REM" ∷ says "SETLS000000000" ∷ [])) (bytes "SCANP0") (Go 0 (Scan cw)) 9 0 refl refl refl refl refl
+    numbered-other asksEnabled (ran unjudged lent (says "REM" ∷ says "SETLS000000000" ∷ [])) (bytes "SCANP0") (Go 0 (Scan cw)) 9 0 refl refl refl refl refl
     (λ e. absurd (omega (arith, e)))
 
 -- Reads are answered as if the contacts were known, so that V is told from them: with SETLS001110111 all three switches would be
@@ -592,7 +593,7 @@ showsUnread =
 pub shows-unread-refused : AllReplies showsUnread → ⊥
 unfolding computing-laws
 shows-unread-refused r =
-    let t = ran urqolina lent (says "REM" ∷ says "SETLS001110111" ∷ []) in
+    let t = ran unjudged lent (says "REM" ∷ says "SETLS001110111" ∷ []) in
     let told = r t (bytes "STS0?") (replicate 32 0) refl (omega arith) .reads 0 AskStatus refl in
     let fact : _≡_ {A = ℕ} (code "7") (code "0") = ap (λ (a : After). getD (a .buffer) 3 0) told in
     absurd (omega (arith, fact))
@@ -849,11 +850,11 @@ setsAfter wrong n =
 pub sets-after-refused : (Neighbours (setsAfter "SCANP0" 3) → ⊥) × (Neighbours (setsAfter "PAUSE ON" 0) → ⊥) × (Neighbours (setsAfter "SPC0400" 0) → ⊥)
 unfolding computing-laws
 sets-after-refused = (
-  (λ n. false≢true (sym (n .otherBits (ran urqolina lent ready) (bytes "SCANP0") (replicate 32 0) (Go 0 (Scan cw)) 0 1 (omega arith) refl refl (λ e. absurd (omega (arith, e)))))),
+  (λ n. false≢true (sym (n .otherBits (ran unjudged lent ready) (bytes "SCANP0") (replicate 32 0) (Go 0 (Scan cw)) 0 1 (omega arith) refl refl (λ e. absurd (omega (arith, e)))))),
   (λ n.
-      let fact : _≡_ {A = ℕ} 0 1 = n .headSet (ran urqolina lent scanning) (bytes "PAUSE ON") (replicate 32 0) (ForHead (Pause 1)) refl refl in
+      let fact : _≡_ {A = ℕ} 0 1 = n .headSet (ran unjudged lent scanning) (bytes "PAUSE ON") (replicate 32 0) (ForHead (Pause 1)) refl refl in
       absurd (omega (arith, fact))),
-  (λ n. false≢true (sym (n .cleared (ran urqolina lent scanning) (says "SPC0400") 0 (omega arith) refl refl .1))),
+  (λ n. false≢true (sym (n .cleared (ran unjudged lent scanning) (says "SPC0400") 0 (omega arith) refl refl .1))),
 )
 
 -- A set that is not judged: a tick that is taken on a fresh table whose set has channel 0.
@@ -867,7 +868,7 @@ trusts-sets-refused n =
     let fact : _≡_ {A = ℕ} 0 6 = ap (λ (a : After). a .result) left in
     absurd (omega (arith, fact))
 
--- `BSY?` with the low byte first, or with channel 0 first: 0900 or 9000 where channels 0 and 3 are busy.
+-- `BSY?` with the low byte first, or with channel 0 first: 0100 or 8000 where channel 0 is busy.
 abbrev pub tellsSet : (ℕ → List ℕ) → Library
 tellsSet text =
     withCommand
@@ -877,18 +878,18 @@ tellsSet text =
 abbrev pub turned : ℕ → ℕ
 turned n = bitsOf (λ c. isSet (15 - c) n) 16
 
+-- What a library answers to it must be 0001.
+told-one : (l : Library) → AllReplies l → l .command underway (bytes "BSY?") (replicate 32 0) .reply ≡ put (replicate 32 0) 0 (bytes "0001")
+unfolding computing-laws
+told-one l r = ap (λ (a : After). a .buffer) (r underway (bytes "BSY?") (replicate 32 0) refl (omega arith) .headReads AskBusy refl)
+
 pub tells-turned-refused : (AllReplies (tellsSet (λ n. hexByte (n % 256) ++ hexByte (n / 256))) → ⊥) × (AllReplies (tellsSet (λ n. hexWord (turned n))) → ⊥)
 unfolding computing-laws
 tells-turned-refused = (
   (λ r.
-      let told = r two (bytes "BSY?") (replicate 32 0) refl (omega arith) .headReads AskBusy refl in
-      let fact : _≡_ {A = ℕ} (code "9") (code "0") = ap (λ (a : After). getD (a .buffer) 1 0) told in
+      let fact : _≡_ {A = ℕ} (code "1") (code "0") = ap (λ (b : List ℕ). getD b 1 0) (told-one _ r) in
       absurd (omega (arith, fact))),
   (λ r.
-      let told = r two (bytes "BSY?") (replicate 32 0) refl (omega arith) .headReads AskBusy refl in
-      let fact : _≡_ {A = ℕ} (code "9") (code "0") = ap (λ (a : After). getD (a .buffer) 0 0) told in
+      let fact : _≡_ {A = ℕ} (code "8") (code "0") = ap (λ (b : List ℕ). getD b 0 0) (told-one _ r) in
       absurd (omega (arith, fact))),
 )
-  where
-    two : List ℕ
-    two = ran urqolina lent (reading 3 0 ∷ scanning ++ (says "SCANN3" ∷ []))
