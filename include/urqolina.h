@@ -75,10 +75,10 @@ extern "C" {
 /*
  * Which motors are busy. The table keeps the set, so that the host need not walk sixteen records at each tick to learn which
  * drive: urqolina_busy reads it, bit c for channel c, and BSY? answers it in four hex digits, channel F in the first and
- * channel 0 in the last. It is true after every call but one that answers 5 or 6: a channel is in it from its accepted start on, held or
- * driving, until the call that ends its drive, be that a stop, a reading or a tick. So after the tick of its last pulses a
- * channel is no longer busy, while those pulses stand in the pulse buffer. A host that looks at the counts of busy channels
- * alone takes the set before the tick:
+ * channel 0 in the last. After every call that answers neither 5 nor 6 it is true: a channel is in it from its accepted start
+ * on, held or driving, until the call that ends its drive, be that a stop, a reading or a tick. So after the tick of its last
+ * pulses a channel is no longer busy, while those pulses stand in the pulse buffer. A host that looks at the counts of busy
+ * channels alone takes the set before the tick:
  *   uint16_t busy = urqolina_busy(table);
  *   urqolina_tick(table, sizeof table, pulses, sizeof pulses);
  * The host reads the set and never writes it: a table in which it is not true is answered 6. It is read between calls, since
