@@ -39,10 +39,10 @@ static uint32_t read_switches(uint32_t channel)
     return urqolina_reading(table, sizeof table, channel, wires[channel]);
 }
 
-/* At power-up: a fresh table knows no switch, and starts no motor whose switches were not read. */
-static int power_up(void)
+/* At power-up: a fresh table, of the bench's card, knows no switch, and starts no motor whose switches were not read. */
+static int power_up(uint32_t card)
 {
-    if (urqolina_fresh(table, sizeof table) != URQOLINA_OK)
+    if (urqolina_fresh(table, sizeof table, card) != URQOLINA_OK)
         return 0;
     for (uint32_t channel = 0; channel < URQOLINA_CHANNELS; channel++)
         if (read_switches(channel) != URQOLINA_OK)
@@ -81,11 +81,29 @@ static unsigned tick_until_idle(unsigned now, unsigned most)
     return now;
 }
 
+/* A bench with the four-motor card: any four of the sixteen channels may be busy, and no fifth. */
+static void run_four(void)
+{
+    send("STQ?");     /* local mode, and four motors may start */
+    send("REM");
+    send("SCANP0");
+    send("SCANN1");
+    send("PAUSE ON");
+    send("REL2+5");   /* a held drive takes a place too */
+    send("RELE-5");
+    send("STQ?");
+    send("SCANP3");   /* the fifth: refused */
+    send("SSTP1");    /* one is stopped, and leaves its place */
+    printf("free motors: %u\n", urqolina_free_motors(table));
+    send("SCANP3");
+    send("BSY?");
+}
+
 int main(void)
 {
     unsigned now = 0;
 
-    if (!power_up())
+    if (!power_up(URQOLINA_CARD_16))
         return 1;
     send("SCANN5");   /* at power-up the controller is in local mode: refused */
     send("REM");
@@ -118,5 +136,9 @@ int main(void)
     table[4] = 1;   /* the set has channel 0, which stands: a damaged table is found out, and nothing is done on it */
     send("PS?0");
     tick(++now);
+
+    if (!power_up(URQOLINA_CARD_4))   /* it is made anew, for another bench */
+        return 1;
+    run_four();
     return 0;
 }

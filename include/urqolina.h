@@ -30,12 +30,13 @@ extern "C" {
  * accepted reading, and until then no start moves its motor (9). So after urqolina_fresh, and after restoring a table
  * that was kept, read the switches of all sixteen channels before the first start, those without switches too:
  *
- *   urqolina_fresh(table, sizeof table);
+ *   urqolina_fresh(table, sizeof table, URQOLINA_CARD_16);
  *   for (uint32_t channel = 0; channel < URQOLINA_CHANNELS; channel++)
  *       urqolina_reading(table, sizeof table, channel, contacts_of(channel));
  *
- * where contacts_of is the host's own. A reading is taken in local mode too, and one of open contacts is one. Nothing but
- * urqolina_fresh makes contacts unknown again. Afterwards, read a channel whenever a contact of it changes.
+ * where contacts_of is the host's own, and the card is the bench's (below). A reading is taken in local mode too, and
+ * one of open contacts is one. Nothing but urqolina_fresh makes contacts unknown again. Afterwards, read a channel
+ * whenever a contact of it changes.
  */
 
 /*
@@ -49,6 +50,9 @@ extern "C" {
  *   version 5: 4 is no longer given; 7 to 13 stand in its place, one for each cause, and all else is as it was. New is
  *              urqolina_advice
  *   version 6: the set of busy channels in the table, and BSY?, which answers it. New is urqolina_busy
+ *   version 7: urqolina_fresh takes the card: the sixteen-motor card, which is as before, or the four-motor card, on
+ *              which a start is 14 while four motors are busy, and which has STQ?. A host that was compiled with an
+ *              earlier header passes no card, and is compiled anew. New are urqolina_card and urqolina_free_motors
  *   layout 1: a head of 64 bytes and sixteen records of 64, as document 01 has them
  *   layout 2: byte 44 of a record is 0 while its contacts are unknown, and byte 26 then is 0 too, or 1 once they are
  *             read. Of the tables of layout 1, one with a closed contact or a driving motor is answered 6, and the
@@ -57,9 +61,11 @@ extern "C" {
  *             held. Every table of layout 2 means the same in this one
  *   layout 4: bytes 4 and 5 of the head are the set of busy channels, low byte first. Of the tables of layout 3, one with
  *             a driving or held motor is answered 6, and every other means the same
+ *   layout 5: byte 6 of the head is the card, 0 sixteen or 1 four. Every table of layout 4 means the same in this one:
+ *             it is of the sixteen-motor card
  */
-#define URQOLINA_VERSION 6
-#define URQOLINA_LAYOUT 4
+#define URQOLINA_VERSION 7
+#define URQOLINA_LAYOUT 5
 
 /*
  * Motors that leave together. After PAUSE ON an accepted start is held: the channel is busy, and no tick moves it or counts
@@ -86,6 +92,24 @@ extern "C" {
  * or with that interrupt held off.
  */
 
+/*
+ * The four-motor card. A bench with a PM16C-04XD makes its table with URQOLINA_CARD_4, one with a PM16C-16 with
+ * URQOLINA_CARD_16. Both cards have sixteen channels, which are set, read and stopped alike, but the first runs four
+ * motors at most: any four of the sixteen, and a held one takes its place from its start on. While four are busy, a
+ * start of another motor that nothing else refuses is 14, unless it moves nothing (ABS to the present position, REL 0).
+ * A place is free again after the call that ends a drive, be that a stop, a reading or a tick, and the next line may
+ * take it.
+ *   STQ? answers R or L and how many more motors may start, R4 with none busy and R0 with four, in both modes. On the
+ * sixteen-motor card there is no such line (1). urqolina_free_motors tells it of either card, without a call.
+ *   The card is byte 6 of the head. Nothing but urqolina_fresh writes it, so a table that is kept carries its card: a
+ * host that restores one asks urqolina_card whether it is of the card that the bench has now. The host never writes it
+ * either: a table of the four-motor card with five busy motors is answered 6.
+ */
+
+/* The cards. */
+#define URQOLINA_CARD_16 0u   /* sixteen motors at a time */
+#define URQOLINA_CARD_4 1u    /* four motors at a time, of sixteen channels */
+
 /* The sizes of the buffers, in bytes. */
 #define URQOLINA_TABLE_SIZE 1088u  /* the table, exactly */
 #define URQOLINA_REPLY_SIZE 32u    /* the reply buffer, at least; no reply is longer than 17 bytes */
@@ -95,17 +119,17 @@ extern "C" {
 #define URQOLINA_CONTACTS_MOST 7u  /* closed = 1: bit 0 CW, bit 1 CCW, bit 2 HP */
 
 /*
- * The numbers that a call hands back; 4 is no longer one of them. 7 to 13 all have the text NG and the error flag 8, and so
- * will later ones: the number tells which it is. Where several causes hold, a start is answered the lowest of 8 to 12, but
- * for 11 and 12: at the end of the range it is 12, whatever the limits are. ABS to the present position and REL 0 move
- * nothing, and meet none of 8 to 12.
+ * The numbers that a call hands back; 4 is no longer one of them. 7 to 14 all have the text NG and the error flag 8,
+ * and so will later ones: the number tells which it is. Where several causes hold, a start is answered the lowest of 8
+ * to 12 and 14, but for 11 and 12: at the end of the range it is 12, whatever the limits are. ABS to the present
+ * position and REL 0 move nothing, and meet none of these.
  */
 enum {
     URQOLINA_OK = 0,                /* done */
-    URQOLINA_COMMAND_ERROR = 1,     /* the line has no form */
+    URQOLINA_COMMAND_ERROR = 1,     /* the line has no form; nor has STQ? on the sixteen-motor card */
     URQOLINA_BUSY = 2,              /* a start, setting or speed selection of a driving or held channel */
     URQOLINA_PARAMETER = 3,         /* the form is right, a value is outside its range */
-    URQOLINA_WRONG_SIZE = 5,        /* a buffer of the wrong size, a channel over 15, contacts over 7 */
+    URQOLINA_WRONG_SIZE = 5,        /* a buffer of the wrong size, a channel over 15, contacts over 7, a card over 1 */
     URQOLINA_NOT_SOUND = 6,         /* the table is not sound */
     URQOLINA_LOCAL_MODE = 7,        /* local mode, and a line that only remote mode takes */
     URQOLINA_MOTOR_DISABLED = 8,    /* a start with A = 0 in SETMT */
@@ -113,7 +137,8 @@ enum {
     URQOLINA_SWITCH_AHEAD = 10,     /* a start towards a switch that is active and enabled */
     URQOLINA_AT_DIGITAL_LIMIT = 11, /* a start at the digital limit of its direction or past it, with D = 1 in SETLS */
     URQOLINA_AT_RANGE_END = 12,     /* a scan at the end of the range: CW at +2147483647, CCW at -2147483647 */
-    URQOLINA_MOTOR_STOPPED = 13     /* SPC on a motor that stands stopped */
+    URQOLINA_MOTOR_STOPPED = 13,    /* SPC on a motor that stands stopped */
+    URQOLINA_FOUR_BUSY = 14         /* a start on the four-motor card while four motors are busy, driving or held */
 };
 
 /* A command's result is the number plus 256 times the length of the reply. The other calls' result is the number. */
@@ -121,10 +146,12 @@ enum {
 #define URQOLINA_REPLY_LENGTH(result) ((result) >> 8)
 
 /*
- * Makes a fresh table, whatever the bytes were. Gives 0, or 5 and leaves the bytes as they were. The contacts of all
- * channels are unknown: the switches are to be read next.
+ * Makes a fresh table of a card, URQOLINA_CARD_16 or URQOLINA_CARD_4, whatever the bytes were.
+ *   0  the table is fresh, and byte 6 of its head is the card. The contacts of all channels are unknown: the switches
+ *      are to be read next
+ *   5  the table has the wrong size, or there is no such card; no byte is written
  */
-uint32_t urqolina_fresh(uint8_t *table, size_t table_size);
+uint32_t urqolina_fresh(uint8_t *table, size_t table_size, uint32_t card);
 
 /*
  * Takes one command line, without CR LF. The line is any bytes; it need not end in a zero.
@@ -168,6 +195,21 @@ static inline uint16_t urqolina_busy(const uint8_t *table)
     return (uint16_t)((uint32_t)table[4] | (uint32_t)table[5] << 8);
 }
 
+/* The card of a table, URQOLINA_CARD_16 or URQOLINA_CARD_4. */
+static inline uint32_t urqolina_card(const uint8_t *table)
+{
+    return table[6];
+}
+
+/* How many more motors may start on the card of a table between calls: sixteen or four, less those that are busy. */
+static inline uint32_t urqolina_free_motors(const uint8_t *table)
+{
+    uint32_t left = urqolina_card(table) == URQOLINA_CARD_4 ? 4u : 16u;
+    for (uint32_t busy = urqolina_busy(table); busy != 0 && left != 0; busy >>= 1)
+        left -= busy & 1u;
+    return left;
+}
+
 /*
  * What a number tells, and what to do about it: a sentence for the people at the bench. Of a command's result it takes
  * URQOLINA_NUMBER(result).
@@ -178,14 +220,15 @@ static inline const char *urqolina_advice(uint32_t number)
     case URQOLINA_OK:
         return "done";
     case URQOLINA_COMMAND_ERROR:
-        return "there is no such command: look for small letters, blanks, and digits or signs too many or too few";
+        return "there is no such command: look for small letters, blanks, and digits or signs too many or too few; "
+               "STQ? is the four-motor card's alone";
     case URQOLINA_BUSY:
         return "the motor is driving or held: stop it, or wait until it stands; PAUSE OFF releases what is held";
     case URQOLINA_PARAMETER:
         return "a number or the target is out of range: positions reach 2147483647 either way, speeds go from 1 to 5000000; "
                "the digits of SETLS, SETMT and ERRC have ranges of their own";
     case URQOLINA_WRONG_SIZE:
-        return "a buffer has the wrong size, or there is no such channel or contact: mend the host's call";
+        return "a buffer has the wrong size, or there is no such channel, contact or card: mend the host's call";
     case URQOLINA_NOT_SOUND:
         return "the table is damaged: restore one that was kept, or make it fresh and read all switches; a fresh one has "
                "lost its positions and settings";
@@ -205,6 +248,9 @@ static inline const char *urqolina_advice(uint32_t number)
         return "the position is at the end of its range: drive the other way, or preset the position with PS";
     case URQOLINA_MOTOR_STOPPED:
         return "the motor stands stopped, and SPC changes the speed of a drive: start it first";
+    case URQOLINA_FOUR_BUSY:
+        return "four motors are driving or held, and the four-motor card runs no more: stop one, or wait until one "
+               "stands; BSY? tells which they are";
     default:
         return "this header does not know the number: are header and library of one version?";
     }
