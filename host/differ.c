@@ -8,7 +8,9 @@
  *
  * What is held against each of the two besides: no byte outside a lent buffer is touched, read or written (bytes of a known
  * value around it, and pages that can't be touched beside those), a line is never written, 5 and 6 write nothing, every other
- * refusal writes its error flag and its text alone, the bytes past a reply stay, and after every call but a 5 or a 6 the busy set is true.
+ * refusal writes its error flag and its text alone, the bytes past a reply stay, and after every call but a 5 or a 6
+ * the busy set is true, the card is what it was or what fresh was told, and no motor has become busy where none was
+ * free.
  *
  * Where MODEL_ALONE is defined the model stands on both sides: for the sanitizers, which the library is not built for.
  */
@@ -60,7 +62,7 @@ static struct lent table = {.name = "table"}, line = {.name = "line"}, reply = {
 /* The call in hand. */
 static struct {
     int kind;
-    uint32_t channel, contacts;
+    uint32_t channel, contacts, card;
     uint32_t results[SIDES];
 } call;
 
@@ -100,6 +102,8 @@ static _Noreturn void differs(const char *what, const char *where)
 {
     printf("differ: seed %" PRIu64 ", call %" PRIu64 " (%s): %s%s\n", seed, made, call_names[call.kind], what, where);
     printf("  results: the library %" PRIu32 ", the model %" PRIu32 "\n", call.results[LIBRARY], call.results[MODEL]);
+    if (call.kind == FRESH)
+        printf("  card %" PRIu32 "\n", call.card);
     if (call.kind == READING)
         printf("  channel %" PRIu32 ", contacts %" PRIu32 "\n", call.channel, call.contacts);
     if (call.kind == COMMAND) {
@@ -211,6 +215,22 @@ static void compare_busy_set(void)
             differs("the busy set is not true, by ", side_names[side]);
 }
 
+/* But for fresh the card stays. A start is 14 only where four motors of four are busy, and there none becomes busy. */
+static void compare_card(uint32_t number)
+{
+    uint32_t card = call.kind == FRESH ? call.card : urqolina_card(table.before);
+    uint32_t left = urqolina_free_motors(table.before), busy = urqolina_busy(table.before);
+    for (int side = 0; side < SIDES; side++) {
+        const uint8_t *now = copy_of(&table, side);
+        if (urqolina_card(now) != card)
+            differs("the table is of another card, by ", side_names[side]);
+        if (left == 0 && (urqolina_busy(now) & ~busy) != 0)
+            differs("a motor has become busy where none was free, by ", side_names[side]);
+    }
+    if (number == URQOLINA_FOUR_BUSY && (card != URQOLINA_CARD_4 || left != 0))
+        differs("14 where a motor was free, or on the sixteen-motor card", "");
+}
+
 static void compare(void)
 {
     static const struct lent *const all[] = {&table, &line, &reply, &pulses};
@@ -222,8 +242,10 @@ static void compare(void)
     for (int k = 0; k < 4; k++)
         if (is_lent(all[k]))
             compare_buffer(all[k], number);
-    if (number != URQOLINA_WRONG_SIZE && number != URQOLINA_NOT_SOUND)
+    if (number != URQOLINA_WRONG_SIZE && number != URQOLINA_NOT_SOUND) {
         compare_busy_set();
+        compare_card(number);
+    }
     if (call.kind == COMMAND) {
         if (number != URQOLINA_OK && number != URQOLINA_WRONG_SIZE && number != URQOLINA_NOT_SOUND)
             compare_refusal(number);
@@ -302,8 +324,8 @@ static void make_call(int kind)
     keep_before(&pulses);
     switch (kind) {
     case FRESH:
-        results[LIBRARY] = urqolina_fresh(t[LIBRARY], table.said);
-        results[MODEL] = model_fresh(t[MODEL], table.said);
+        results[LIBRARY] = urqolina_fresh(t[LIBRARY], table.said, call.card);
+        results[MODEL] = model_fresh(t[MODEL], table.said, call.card);
         break;
     case COMMAND:
         results[LIBRARY] = urqolina_command(t[LIBRARY], table.said, l[LIBRARY], line.said, r[LIBRARY], reply.said);
@@ -393,6 +415,12 @@ static void lend_table(const uint8_t *bytes, size_t size)
     fill(&table, bytes);
 }
 
+static void make_fresh(uint32_t card)
+{
+    call.card = card;
+    make_call(FRESH);
+}
+
 /* What firmware does at power-up, or does in part, or not at all: the switches of the channels are read, mostly all open. */
 static void read_channels(void)
 {
@@ -414,7 +442,7 @@ static void session(bool fresh, uint32_t most)
     draw_sound_table(&chance, bytes);
     lend_table(bytes, sizeof bytes);
     if (fresh)
-        make_call(FRESH);
+        make_fresh(draw_below(&chance, 2));
     if (fresh && most > 1)
         read_channels();
     for (uint32_t k = 1 + draw_below(&chance, most); k > 0 && made < pause_at; k--) {
@@ -439,7 +467,20 @@ static void damaged(void)
         lend_table(bytes, sizeof bytes);
         draw_call();
         if (draw_once_in(&chance, 50))
-            make_call(FRESH);
+            make_fresh(draw_card(&chance));
+    }
+}
+
+/* Fresh with any card, on tables of either, sound or damaged. */
+static void fresh_again(void)
+{
+    static uint8_t bytes[URQOLINA_TABLE_SIZE];
+    for (uint32_t k = 0; k < 8 && made < pause_at; k++) {
+        draw_sound_table(&chance, bytes);
+        if (draw_once_in(&chance, 2))
+            draw_damage(&chance, bytes);
+        lend_table(bytes, sizeof bytes);
+        make_fresh(draw_card(&chance));
     }
 }
 
@@ -449,7 +490,7 @@ static void wrong_table_size(size_t size)
     static uint8_t bytes[AREA];
     draw_sound_table(&chance, bytes);
     lend_table(bytes, size);
-    make_call(FRESH);
+    make_fresh(draw_card(&chance));
     lend_table(bytes, size);
     make_command((const uint8_t *)"REM", 3);
     draw_reading();
@@ -495,6 +536,7 @@ static void sizes_past_32_bits(void)
         lend_any(&reply, 32);
         lend_any(&pulses, 64);
         all[k]->said += (size_t)1 << 32;
+        call.card = URQOLINA_CARD_4;
         for (int kind = 0; kind < CALLS; kind++)
             make_call(kind);
         all[k]->said = all[k]->size;
@@ -536,6 +578,7 @@ static void episode(void)
     case 1: every_byte(); break;
     case 2: case 3: wrong_table_size(draw_below(&chance, 1200)); break;
     case 4: case 5: case 6: case 7: session(true, 200); break;
+    case 8: fresh_again(); break;
     default: draw_once_in(&chance, 3) ? session(false, 30) : damaged(); break;
     }
     for (int k = 0; k < 4; k++)
@@ -617,7 +660,7 @@ static void make_step(const struct step *s)
     static uint8_t bytes[AREA];
     draw_bytes(&chance, bytes, sizeof bytes);
     lend_table(bytes, URQOLINA_TABLE_SIZE);
-    make_call(FRESH);
+    make_fresh(s->card);
     send_before(s->before);
     memcpy(bytes, copy_of(&table, MODEL), URQOLINA_TABLE_SIZE);
     tour_damage(s, bytes);
@@ -625,6 +668,7 @@ static void make_step(const struct step *s)
     lend_any(&pulses, size_off(URQOLINA_PULSES_SIZE, s->pulses));
     call.channel = s->channel;
     call.contacts = s->contacts;
+    call.card = s->wanted;
     if (s->kind == COMMAND)
         send_line(s->line, strlen(s->line), size_off(URQOLINA_REPLY_SIZE, s->reply));
     else

@@ -12,7 +12,7 @@ enum { HEAD = 64, RECORD = 64 };
 enum { POSITION = 0, CW_LIMIT = 4, CCW_LIMIT = 8, HSPD = 12, SELECTED = 24, SETLS = 25, CONTACTS = 26, SETMT = 27, ENDED = 31 };
 enum { GOING = 32, KIND = 33, FRACTION = 34, SPEED = 36, TARGET = 40, READ = 44 };
 enum { STOPPED, CW, CCW, HELD = 2 };
-enum { MODE = 0, ALL_REPLY = 1, FLAGS = 2, PAUSE = 3, BUSY = 4, HEAD_ZEROS = 6 };
+enum { MODE = 0, ALL_REPLY = 1, FLAGS = 2, PAUSE = 3, BUSY = 4, CARD = 6, HEAD_ZEROS = 7 };
 
 static const int64_t END = 2147483647;
 
@@ -51,6 +51,19 @@ uint32_t draw_word(struct draw *d)
     if (draw_once_in(d, 4))
         return (uint32_t)next(d);
     return ends[draw_below(d, sizeof ends / sizeof ends[0])];
+}
+
+/* What is no card is one too many, one that fewer bits would cut to a card, or any. */
+uint32_t draw_card(struct draw *d)
+{
+    uint32_t card = draw_below(d, 2);
+    if (!draw_once_in(d, 3))
+        return card;
+    switch (draw_below(d, 3)) {
+    case 0: return 2 + card;
+    case 1: return card | 1u << (1 + draw_below(d, 31));
+    default: return draw_word(d);
+    }
 }
 
 static void put(uint8_t *at, uint32_t word)
@@ -225,19 +238,35 @@ static void put_busy_set(uint8_t *table, uint32_t set)
     table[BUSY + 1] = (uint8_t)(set >> 8);
 }
 
+/* The channels that drive: on the four-motor card mostly three or four, any of the sixteen; on the other one up to all
+   of them, often four, five or all but one. */
+static uint32_t draw_driving(struct draw *d, bool four)
+{
+    static const uint8_t counts[2][10] = {{0, 0, 1, 4, 5, 8, 12, 15, 16, 16}, {0, 1, 2, 3, 3, 3, 4, 4, 4, 4}};
+    uint32_t count = counts[four][draw_below(d, 10)], set = 0;
+    while (count > 0) {
+        uint32_t channel = 1u << draw_below(d, 16);
+        count -= (set & channel) == 0;
+        set |= channel;
+    }
+    return set;
+}
+
 void draw_sound_table(struct draw *d, uint8_t *table)
 {
     static const uint8_t ends[] = {0, 0x20, 0x40, 0x80};
-    uint32_t driving = draw_below(d, 5);
+    bool four = draw_once_in(d, 2);
+    uint32_t driving = draw_driving(d, four);
     memset(table, 0, URQOLINA_TABLE_SIZE);
     table[MODE] = draw_once_in(d, 5) ? 0 : 1;
     table[ALL_REPLY] = (uint8_t)draw_below(d, 2);
     table[FLAGS] = (uint8_t)draw_below(d, 16);
     table[PAUSE] = (uint8_t)draw_below(d, 2);
+    table[CARD] = four ? URQOLINA_CARD_4 : URQOLINA_CARD_16;
     for (int c = 0; c < 16; c++) {
         uint8_t *record = table + HEAD + RECORD * c;
         draw_settings(d, record);
-        if (draw_below(d, 4) < driving)
+        if ((driving >> c & 1u) != 0)
             draw_drive(d, record, table[PAUSE] == 1);
         else {
             record[ENDED] = ends[draw_below(d, 4)];
@@ -267,10 +296,21 @@ static void damage_busy_set(struct draw *d, uint8_t *table)
     put_busy_set(table, set);
 }
 
+/* The card as it may go wrong: the other one, which is sound where no more than four are busy, or none. */
+static void damage_card(struct draw *d, uint8_t *table)
+{
+    static const uint8_t others[] = {0, 1, 2, 3, 128, 255};
+    if (draw_once_in(d, 2))
+        table[CARD] ^= 1;
+    else
+        table[CARD] = others[draw_below(d, sizeof others)];
+}
+
 /* Damages a byte or a number, whatever comes of the busy set. */
 static void damage_field(struct draw *d, uint8_t *table)
 {
     static const uint8_t words[] = {POSITION, CW_LIMIT, CCW_LIMIT, HSPD, HSPD + 4, HSPD + 8, SPEED, TARGET};
+    static const uint8_t zeros[] = {HEAD_ZEROS, HEAD_ZEROS + 1, HEAD - 1};
     uint8_t *record = table + HEAD + RECORD * draw_below(d, 16);
     uint8_t *byte = table + draw_below(d, URQOLINA_TABLE_SIZE);
     uint32_t word;
@@ -283,7 +323,7 @@ static void damage_field(struct draw *d, uint8_t *table)
     case 2: break;
     case 3: byte = record + (draw_once_in(d, 2) ? CONTACTS : READ); break;
     case 4: byte = draw_once_in(d, 2) ? table + PAUSE : record + GOING; break;
-    case 5: byte = table + HEAD_ZEROS + draw_below(d, 2); break;
+    case 5: byte = table + zeros[draw_below(d, sizeof zeros)]; break;
     default: byte = record + SELECTED + draw_below(d, READ + 2 - SELECTED); break;
     }
     if (draw_once_in(d, 2))
@@ -300,6 +340,10 @@ void draw_damage(struct draw *d, uint8_t *table)
         damage_busy_set(d, table);
         return;
     }
+    if (draw_once_in(d, 8)) {
+        damage_card(d, table);
+        return;
+    }
     damage_field(d, table);
     if (draw_busy_set(table) != set && draw_once_in(d, 2))
         put_busy_set(table, draw_busy_set(table));
@@ -307,15 +351,28 @@ void draw_damage(struct draw *d, uint8_t *table)
 
 /*
  * The forms, the starts first. x stands for a channel, s for a number that may have a sign, u for one that may not, y for a digit
- * that is mostly 0 or 1, z for one that is mostly 0, e for any digit.
+ * that is mostly 0 or 1, z for one that is mostly 0, e for any digit; p for the channel's position.
  */
 static const char *const forms[] = {
     "ABSxs",  "RELxs",  "SCANPx", "SCANNx", "JOGPx",  "JOGNx",  "SSTPx",      "ESTPx",      "ASSTP",          "AESTP",
     "SPCxu",  "PSxs",   "FLxs",   "BLxs",   "SPDHx",  "SPDMx",  "SPDLx",      "SPDHxu",     "SPDMxu",         "SPDLxu",
     "PS?x",   "FL?x",   "BL?x",   "SPD?x",  "SPDH?x", "SPDM?x", "SPDL?x",     "SETLS?x",    "SETMT?x",        "STSx?",
     "LOC",    "REM",    "ERRF?",  "ERR?",   "ERRC",   "ERRCe",  "ALL_REP EN", "ALL_REP DS", "SETLSxyyyy0yyy", "SETMTxyyzy",
-    "ALL_REP?", "PAUSE ON", "PAUSE OFF", "PAUSE?", "BSY?"};
+    "ALL_REP?", "PAUSE ON", "PAUSE OFF", "PAUSE?", "BSY?", "STQ?"};
 enum { STARTS = 6 };
+
+/* What a line of the four-motor card is more often than one of the other: a start, so that places are asked for, one
+   that moves nothing, or STQ?, and now and then what is nearly that. */
+static const char *draw_four_form(struct draw *d)
+{
+    static const char *const near[] = {"STQ", "STQ?x", "STQx?", "stq?"};
+    switch (draw_below(d, 8)) {
+    case 0: return "STQ?";
+    case 1: return draw_once_in(d, 4) ? near[draw_below(d, sizeof near / sizeof near[0])] : "STQ?";
+    case 2: return draw_once_in(d, 2) ? "RELx0" : "ABSxp";
+    default: return forms[draw_below(d, STARTS)];
+    }
+}
 
 /* A signed number: near the channel's position, its limits or the ends of the range, small, or anything. */
 static int64_t draw_signed(struct draw *d, const uint8_t *record)
@@ -393,8 +450,8 @@ static uint8_t *put_field(struct draw *d, uint8_t *at, char field, uint32_t chan
     int64_t n;
     switch (field) {
     case 'x': *at = (uint8_t)"0123456789ABCDEF"[channel]; return at + 1;
-    case 's':
-        n = draw_signed(d, record);
+    case 's': case 'p':
+        n = field == 'p' ? position_at(record + POSITION) : draw_signed(d, record);
         at = put_sign(d, at, n);
         return put_number(d, at, (uint64_t)(n < 0 ? -n : n));
     case 'u': return put_number(d, put_stray_sign(d, at), draw_unsigned(d));
@@ -405,17 +462,29 @@ static uint8_t *put_field(struct draw *d, uint8_t *at, char field, uint32_t chan
     }
 }
 
-size_t draw_line(struct draw *d, const uint8_t *table, uint8_t *line)
+/* A few channels are named more often than the others, so that lines meet on them. Once in three times it is the next
+   one that stands, if one does, so that the last free place is asked for, and one more. */
+static uint32_t draw_channel(struct draw *d, const uint8_t *table)
 {
-    /* A few channels are named more often than the others, so that lines meet on them. */
     static const uint8_t often[] = {0, 0, 5, 11, 15};
     uint32_t channel = draw_once_in(d, 4) ? draw_below(d, 16) : often[draw_below(d, sizeof often)];
+    if (draw_once_in(d, 3))
+        for (int k = 0; k < 16 && table[HEAD + RECORD * channel + GOING] != STOPPED; k++)
+            channel = (channel + 1) % 16;
+    return channel;
+}
+
+size_t draw_line(struct draw *d, const uint8_t *table, uint8_t *line)
+{
+    uint32_t channel = draw_channel(d, table);
     const char *form = forms[draw_below(d, draw_once_in(d, 6) ? STARTS : sizeof forms / sizeof forms[0])];
     uint8_t *at = line;
     if (table[MODE] == 0 && draw_once_in(d, 3))
         form = "REM";
     else if (table[PAUSE] == 1 && draw_once_in(d, 10))
         form = "PAUSE OFF";
+    else if (table[CARD] == URQOLINA_CARD_4 && draw_once_in(d, 3))
+        form = draw_four_form(d);
     for (; *form != '\0'; form++)
         at = put_field(d, at, *form, channel, table + HEAD + RECORD * channel);
     return (size_t)(at - line);

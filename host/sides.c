@@ -5,9 +5,9 @@
 
 #include "model.h"
 
-static uint32_t no_fresh(uint8_t *table, size_t table_size)
+static uint32_t no_fresh(uint8_t *table, size_t table_size, uint32_t card)
 {
-    (void)table, (void)table_size;
+    (void)table, (void)table_size, (void)card;
     return 0;
 }
 
@@ -47,6 +47,7 @@ void take_up(int kind, const char *line, uint32_t channel, uint32_t contacts)
                          .line_size = strlen(line),
                          .channel = channel,
                          .contacts = contacts,
+                         .card = URQOLINA_CARD_16,
                          .table_size = URQOLINA_TABLE_SIZE,
                          .reply_size = URQOLINA_REPLY_SIZE,
                          .pulses_size = URQOLINA_PULSES_SIZE};
@@ -61,7 +62,7 @@ void restore(void)
 __attribute__((noinline)) void make_call(void)
 {
     switch (call.kind) {
-    case FRESH: call.result = call.side->fresh(table, call.table_size); return;
+    case FRESH: call.result = call.side->fresh(table, call.table_size, call.card); return;
     case COMMAND:
         call.result = call.side->command(table, call.table_size, call.line, call.line_size, reply, call.reply_size);
         return;

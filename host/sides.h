@@ -12,7 +12,7 @@
 #include "urqolina.h"
 
 struct side {
-    uint32_t (*fresh)(uint8_t *, size_t);
+    uint32_t (*fresh)(uint8_t *, size_t, uint32_t);
     uint32_t (*command)(uint8_t *, size_t, const uint8_t *, size_t, uint8_t *, size_t);
     uint32_t (*reading)(uint8_t *, size_t, uint32_t, uint32_t);
     uint32_t (*tick)(uint8_t *, size_t, uint8_t *, size_t);
@@ -32,14 +32,14 @@ struct call {
     int kind;
     const uint8_t *line;
     size_t line_size;
-    uint32_t channel, contacts;
+    uint32_t channel, contacts, card;
     size_t table_size, reply_size, pulses_size;
     uint32_t result;
 };
 
 extern struct call call;
 
-/* Puts a call in hand, with buffers of the right sizes. */
+/* Puts a call in hand, with buffers of the right sizes; the card of a fresh call is the sixteen-motor one. */
 void take_up(int kind, const char *line, uint32_t channel, uint32_t contacts);
 
 /* Copies the table that the call in hand is made on. */

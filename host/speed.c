@@ -24,47 +24,56 @@ struct measured {
     uint32_t damage;     /* a byte of the table that is not 0 when the call is made, if this is not 0 */
     bool paused;         /* they were started under pause, and are held */
     const char *before;  /* a line that is sent last before the call, if there is one */
+    uint32_t card;       /* of the table */
 };
 
 static const struct measured calls[] = {
-    {"fresh", FRESH, "", 0, 0, 0, false, NULL},
-    {"tick, 0 motors driving", TICK, "", 0, 0, 0, false, NULL},
-    {"tick, 1 motor driving", TICK, "", 1, 0, 0, false, NULL},
-    {"tick, 4 motors driving", TICK, "", 4, 0, 0, false, NULL},
-    {"tick, 16 motors driving", TICK, "", 16, 0, 0, false, NULL},
-    {"tick, 16 motors held", TICK, "", 16, 0, 0, true, NULL},
-    {"tick that ends a drive", TICK, "", 1, 0, 0, false, "SPC05000000"},
-    {"PS?0", COMMAND, "PS?0", 0, 0, 0, false, NULL},
-    {"PS?0, 16 motors driving", COMMAND, "PS?0", 16, 0, 0, false, NULL},
-    {"BSY?", COMMAND, "BSY?", 0, 0, 0, false, NULL},
-    {"BSY?, 16 motors driving", COMMAND, "BSY?", 16, 0, 0, false, NULL},
-    {"STS0?", COMMAND, "STS0?", 0, 0, 0, false, NULL},
-    {"ABS0+100, accepted", COMMAND, "ABS0+100", 0, 0, 0, false, NULL},
-    {"ABS0100, accepted", COMMAND, "ABS0100", 0, 0, 0, false, NULL},
-    {"ABS0+100, refused as busy", COMMAND, "ABS0+100", 1, 2, 0, false, NULL},
-    {"ABS0+3000000000, refused", COMMAND, "ABS0+3000000000", 0, 3, 0, false, NULL},
-    {"SCANP0, refused in local mode", COMMAND, "SCANP0", 0, 7, 0, false, "LOC"},
-    {"SCANP0, refused as disabled", COMMAND, "SCANP0", 0, 8, 0, false, "SETMT00100"},
-    {"SCANP0, refused at the range's end", COMMAND, "SCANP0", 0, 12, 0, false, "PS0+2147483647"},
-    {"SPC0400, refused as stopped", COMMAND, "SPC0400", 0, 13, 0, false, NULL},
-    {"SETLS011110000", COMMAND, "SETLS011110000", 0, 0, 0, false, NULL},
-    {"AESTP, 0 motors driving", COMMAND, "AESTP", 0, 0, 0, false, NULL},
-    {"AESTP, 16 motors driving", COMMAND, "AESTP", 16, 0, 0, false, NULL},
-    {"PAUSE ON", COMMAND, "PAUSE ON", 0, 0, 0, false, NULL},
-    {"PAUSE OFF, 16 motors held", COMMAND, "PAUSE OFF", 16, 0, 0, true, NULL},
-    {"garbled, ABS0+10z", COMMAND, "ABS0+10z", 0, 1, 0, false, NULL},
-    {"garbled, xyz", COMMAND, "xyz", 0, 1, 0, false, NULL},
-    {"reading", READING, "", 0, 0, 0, false, NULL},
-    {"reading that ends a drive", READING, "", 1, 0, 0, false, NULL},
-    {"table not sound at its head", COMMAND, "PS?0", 0, 6, 63, false, NULL},
-    {"table not sound at its end", COMMAND, "PS?0", 0, 6, 1087, false, NULL},
+    {"fresh", FRESH, "", 0, 0, 0, false, NULL, 0},
+    {"tick, 0 motors driving", TICK, "", 0, 0, 0, false, NULL, 0},
+    {"tick, 1 motor driving", TICK, "", 1, 0, 0, false, NULL, 0},
+    {"tick, 4 motors driving", TICK, "", 4, 0, 0, false, NULL, 0},
+    {"tick, 16 motors driving", TICK, "", 16, 0, 0, false, NULL, 0},
+    {"tick, 16 motors held", TICK, "", 16, 0, 0, true, NULL, 0},
+    {"tick that ends a drive", TICK, "", 1, 0, 0, false, "SPC05000000", 0},
+    {"PS?0", COMMAND, "PS?0", 0, 0, 0, false, NULL, 0},
+    {"PS?0, 16 motors driving", COMMAND, "PS?0", 16, 0, 0, false, NULL, 0},
+    {"BSY?", COMMAND, "BSY?", 0, 0, 0, false, NULL, 0},
+    {"BSY?, 16 motors driving", COMMAND, "BSY?", 16, 0, 0, false, NULL, 0},
+    {"STS0?", COMMAND, "STS0?", 0, 0, 0, false, NULL, 0},
+    {"ABS0+100, accepted", COMMAND, "ABS0+100", 0, 0, 0, false, NULL, 0},
+    {"ABS0100, accepted", COMMAND, "ABS0100", 0, 0, 0, false, NULL, 0},
+    {"ABS0+100, refused as busy", COMMAND, "ABS0+100", 1, 2, 0, false, NULL, 0},
+    {"ABS0+3000000000, refused", COMMAND, "ABS0+3000000000", 0, 3, 0, false, NULL, 0},
+    {"SCANP0, refused in local mode", COMMAND, "SCANP0", 0, 7, 0, false, "LOC", 0},
+    {"SCANP0, refused as disabled", COMMAND, "SCANP0", 0, 8, 0, false, "SETMT00100", 0},
+    {"SCANP0, refused at the range's end", COMMAND, "SCANP0", 0, 12, 0, false, "PS0+2147483647", 0},
+    {"SPC0400, refused as stopped", COMMAND, "SPC0400", 0, 13, 0, false, NULL, 0},
+    {"SETLS011110000", COMMAND, "SETLS011110000", 0, 0, 0, false, NULL, 0},
+    {"AESTP, 0 motors driving", COMMAND, "AESTP", 0, 0, 0, false, NULL, 0},
+    {"AESTP, 16 motors driving", COMMAND, "AESTP", 16, 0, 0, false, NULL, 0},
+    {"PAUSE ON", COMMAND, "PAUSE ON", 0, 0, 0, false, NULL, 0},
+    {"PAUSE OFF, 16 motors held", COMMAND, "PAUSE OFF", 16, 0, 0, true, NULL, 0},
+    {"garbled, ABS0+10z", COMMAND, "ABS0+10z", 0, 1, 0, false, NULL, 0},
+    {"garbled, xyz", COMMAND, "xyz", 0, 1, 0, false, NULL, 0},
+    {"reading", READING, "", 0, 0, 0, false, NULL, 0},
+    {"reading that ends a drive", READING, "", 1, 0, 0, false, NULL, 0},
+    {"table not sound at its head", COMMAND, "PS?0", 0, 6, 63, false, NULL, 0},
+    {"table not sound at its end", COMMAND, "PS?0", 0, 6, 1087, false, NULL, 0},
+    {"tick, four-motor card, 4 driving", TICK, "", 4, 0, 0, false, NULL, 1},
+    {"STQ?, four-motor card", COMMAND, "STQ?", 0, 0, 0, false, NULL, 1},
+    {"STQ?, four-motor card, 4 driving", COMMAND, "STQ?", 4, 0, 0, false, NULL, 1},
+    {"STQ?, refused on the sixteen-motor card", COMMAND, "STQ?", 0, 1, 0, false, NULL, 0},
+    {"ABSF+100, accepted as the fourth", COMMAND, "ABSF+100", 3, 0, 0, false, NULL, 1},
+    {"SCANPF, accepted as the fourth", COMMAND, "SCANPF", 3, 0, 0, false, NULL, 1},
+    {"SCANPF, refused as the fifth", COMMAND, "SCANPF", 4, 14, 0, false, NULL, 1},
+    {"SCANPF, refused as the fifth, 4 held", COMMAND, "SCANPF", 4, 14, 0, true, NULL, 1},
 };
 
 /* Makes the table that a call is measured on, with all switches read. Scans and drives to a target take turns; a tick has passed already. */
 static void prepare(const struct measured *m)
 {
     uint8_t pulses[URQOLINA_PULSES_SIZE];
-    model_fresh(start, URQOLINA_TABLE_SIZE);
+    model_fresh(start, URQOLINA_TABLE_SIZE, m->card);
     send_line("REM");
     if (m->paused)
         send_line("PAUSE ON");

@@ -5,8 +5,9 @@
  *
  * The deepest counts of: a line of every form, and some that no table takes, on each of the tables below; fresh, readings and a tick
  * on each of them; the steps of the tour, wrong sizes among them; and drawn lines, readings and ticks on drawn tables, sound and
- * damaged. A line that local mode refuses must be accepted on one sound table and refused on another, and one that is taken in both
- * modes accepted on each of them; the tables that are not sound refuse both.
+ * damaged. A line that local mode refuses must be accepted on one sound table and refused on another, one that is taken
+ * in both modes accepted on each of them, and STQ? on those of the four-motor card alone; a table that is not sound
+ * refuses each.
  */
 #include <stdbool.h>
 #include <stdio.h>
@@ -67,20 +68,27 @@ static uint32_t measure_tick(void)
 }
 
 /* The tables: fresh, with these lines sent, all switches read or none, so many channels started and so many ticks passed. Where
-   damage is not 0, that byte is made 1, and the table is not sound: in its busy set, at the end of its head, at its own end. */
+   damage is not 0, that byte is made 1, and the table is not sound: in its busy set, by its card, in the rest of its
+   head, at its own end. */
 static const struct {
     const char *before[3];
     bool read;
-    uint32_t driving, ticks, damage;
+    uint32_t driving, ticks, damage, card;
 } tables[] = {
-    {{NULL}, false, 0, 0, 0},
-    {{"REM", "ALL_REP EN"}, true, 0, 0, 0},
-    {{"REM", "SETLS011110000", "SETLSF11110000"}, true, 0, 0, 0},
-    {{"REM", "ALL_REP EN"}, true, 16, 1, 0},
-    {{"REM", "PAUSE ON", "ALL_REP EN"}, true, 16, 1, 0},
-    {{"REM"}, true, 16, 0, 4},
-    {{"REM"}, true, 16, 0, 63},
-    {{"REM"}, true, 16, 0, 1087},
+    {{NULL}, false, 0, 0, 0, URQOLINA_CARD_16},
+    {{"REM", "ALL_REP EN"}, true, 0, 0, 0, URQOLINA_CARD_16},
+    {{"REM", "SETLS011110000", "SETLSF11110000"}, true, 0, 0, 0, URQOLINA_CARD_16},
+    {{"REM", "ALL_REP EN"}, true, 16, 1, 0, URQOLINA_CARD_16},
+    {{"REM", "PAUSE ON", "ALL_REP EN"}, true, 16, 1, 0, URQOLINA_CARD_16},
+    {{"REM"}, true, 16, 0, 4, URQOLINA_CARD_16},
+    {{"REM"}, true, 16, 0, 63, URQOLINA_CARD_16},
+    {{"REM"}, true, 16, 0, 1087, URQOLINA_CARD_16},
+    {{NULL}, false, 0, 0, 0, URQOLINA_CARD_4},
+    {{"REM", "ALL_REP EN"}, true, 3, 1, 0, URQOLINA_CARD_4},
+    {{"REM", "ALL_REP EN"}, true, 4, 1, 0, URQOLINA_CARD_4},
+    {{"REM", "PAUSE ON", "ALL_REP EN"}, true, 4, 1, 0, URQOLINA_CARD_4},
+    {{"REM"}, true, 5, 0, 6, URQOLINA_CARD_16},
+    {{"REM"}, true, 4, 0, 7, URQOLINA_CARD_4},
 };
 
 static void pass_ticks(uint32_t ticks)
@@ -93,7 +101,7 @@ static void pass_ticks(uint32_t ticks)
 static void make_table(size_t n)
 {
     memset(start, 0, sizeof start);
-    model_fresh(start, URQOLINA_TABLE_SIZE);
+    model_fresh(start, URQOLINA_TABLE_SIZE, tables[n].card);
     for (size_t k = 0; k < 3 && tables[n].before[k] != NULL; k++)
         if (send_line(tables[n].before[k]) != URQOLINA_OK)
             stop("not accepted before: ", tables[n].before[k]);
@@ -119,7 +127,8 @@ static const char *const both_modes[] = {
 
 /* Lines that no table takes. */
 static const char *const no_lines[] = {
-    "", "ABSBB+5", "ABS0", "SPDM0800000000000", "ALL_REP EM", "SETLS011111000", "ERRC9", "PAUSE OF", "BSY?0", "xyz"};
+    "", "ABSBB+5", "ABS0", "SPDM0800000000000", "ALL_REP EM", "SETLS011111000", "ERRC9", "PAUSE OF", "BSY?0", "STQ",
+    "STQ?0", "xyz"};
 
 #define COUNT(list) (sizeof list / sizeof list[0])
 
@@ -145,19 +154,25 @@ static void measure_lines(size_t n)
     for (size_t k = 0; k < COUNT(both_modes); k++)
         if (measure_text(n, both_modes[k]) != URQOLINA_OK && tables[n].damage == 0)
             stop("refused on a sound table: ", both_modes[k]);
+    if ((measure_text(n, "STQ?") == URQOLINA_OK) != (tables[n].damage == 0 && tables[n].card == URQOLINA_CARD_4))
+        stop("accepted on the sixteen-motor card, or refused on the other: ", "STQ?");
     for (size_t k = 0; k < COUNT(no_lines); k++)
         if (measure_text(n, no_lines[k]) == URQOLINA_OK)
             stop("accepted: ", no_lines[k]);
 }
 
-/* Readings of the first channel and of the last, and a tick. */
+/* Readings of the first channel and of the last, a tick, and fresh with each card and one that is none. */
 static void measure_rest(void)
 {
     for (uint32_t k = 0; k < 2 * (URQOLINA_CONTACTS_MOST + 1); k++)
         measure_reading(k % 2 * (URQOLINA_CHANNELS - 1), k / 2);
     measure_tick();
-    take_up(FRESH, "", 0, 0);
-    measure();
+    for (uint32_t card = URQOLINA_CARD_16; card <= URQOLINA_CARD_4 + 1; card++) {
+        take_up(FRESH, "", 0, 0);
+        call.card = card;
+        if ((measure() == URQOLINA_OK) != (card <= URQOLINA_CARD_4))
+            stop("a card was refused, or one that is none taken", "");
+    }
 }
 
 static void measure_tables(void)
@@ -175,8 +190,9 @@ static void measure_tables(void)
 /* What comes before a step of the tour: readings, ticks and lines are told apart by their first two bytes. */
 static void send_before(const char *before)
 {
-    char text[200];
-    snprintf(text, sizeof text, "%s", before);
+    char text[TOUR_BEFORE_MOST];
+    if (snprintf(text, sizeof text, "%s", before) >= (int)sizeof text)
+        stop("too long to stand before a step: ", before);
     for (char *part = strtok(text, ";"); part != NULL; part = strtok(NULL, ";"))
         if (strncmp(part, "S ", 2) == 0)
             model_reading(start, URQOLINA_TABLE_SIZE, (uint32_t)strtoul(part + 2, NULL, 16), (uint32_t)strtoul(part + 4, NULL, 10));
@@ -189,10 +205,11 @@ static void send_before(const char *before)
 static void measure_step(const struct step *s)
 {
     memset(start, 0, sizeof start);
-    model_fresh(start, URQOLINA_TABLE_SIZE);
+    model_fresh(start, URQOLINA_TABLE_SIZE, s->card);
     send_before(s->before != NULL ? s->before : "");
     tour_damage(s, start);
     take_up(s->kind, s->line != NULL ? s->line : "", s->channel, s->contacts);
+    call.card = s->wanted;
     call.table_size = (size_t)((int)URQOLINA_TABLE_SIZE + s->table);
     call.reply_size = (size_t)((int)URQOLINA_REPLY_SIZE + s->reply);
     call.pulses_size = (size_t)((int)URQOLINA_PULSES_SIZE + s->pulses);

@@ -20,18 +20,25 @@ extern const uint32_t tour_numbers[CALLS];
 struct step {
     int kind;
     uint32_t number;
+    uint32_t card; /* of the fresh table */
     const char *before; /* with ; between them; readings and ticks are written as in a script, S x n and T n; each is accepted */
+    uint32_t wanted; /* the card of a fresh call */
     const char *line; /* of a command */
     uint32_t channel, contacts; /* of a reading */
     int table, reply, pulses; /* by how much the size of a buffer is off */
     bool damaged; /* whether the table is not sound: channel 0 is at -2,147,483,648, where no motor can be */
     uint32_t wrong; /* channels that the busy set has wrong, channel c as bit c; with one of them the table is not sound either */
+    uint32_t at; /* a byte of the table, where this is not 0, and what it is made; the table may be sound with it */
+    uint8_t byte;
 };
+
+/* The most bytes that stand before a step, with a zero after them. */
+#define TOUR_BEFORE_MOST 300u
 
 extern const struct step tour[];
 extern const size_t tour_size;
 
-/* Makes a table not sound, where a step says so. */
+/* Damages a table, where a step says so. */
 void tour_damage(const struct step *s, uint8_t *table);
 
 #endif

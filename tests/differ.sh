@@ -29,7 +29,7 @@ given() { # KIND NUMBER
 
 for seed in 0 1 2 3 999999999999999999; do
     differ 5000 $seed
-    for row in 'fresh 0 5' 'command 0 1 2 3 5 6 7 8 9 10 11 12 13' 'reading 0 5 6' 'tick 0 5 6'; do
+    for row in 'fresh 0 5' 'command 0 1 2 3 5 6 7 8 9 10 11 12 13 14' 'reading 0 5 6' 'tick 0 5 6'; do
         # shellcheck disable=SC2086
         set -- $row
         kind=$1

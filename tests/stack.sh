@@ -38,7 +38,7 @@ cat >"$room/deep.c" <<'END'
 #include <stddef.h>
 #include <stdint.h>
 #include "model.h"
-uint32_t urqolina_fresh(uint8_t *t, size_t n) { return model_fresh(t, n); }
+uint32_t urqolina_fresh(uint8_t *t, size_t n, uint32_t c) { return model_fresh(t, n, c); }
 uint32_t urqolina_command(uint8_t *t, size_t n, const uint8_t *l, size_t k, uint8_t *r, size_t m) { return model_command(t, n, l, k, r, m); }
 uint32_t urqolina_reading(uint8_t *t, size_t n, uint32_t c, uint32_t k) { return model_reading(t, n, c, k); }
 uint32_t urqolina_tick(uint8_t *t, size_t n, uint8_t *p, size_t m)
