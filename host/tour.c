@@ -146,6 +146,12 @@ const struct step tour[] = {
     /* a value out of its range, and a target */
     {.kind = COMMAND, .number = 3, .before = "REM", .line = "SPDM05000001"},
     {.kind = COMMAND, .number = 3, .before = "REM", .line = "PS02147483648"},
+    {.kind = COMMAND, .number = 3, .before = "REM", .line = "SETMT02100"},
+    {.kind = COMMAND, .number = 3, .before = "REM", .line = "SETMT01200"},
+    {.kind = COMMAND, .number = 3, .before = "REM", .line = "SETMT01110"},
+    {.kind = COMMAND, .number = 3, .before = "REM", .line = "SETMT01103"},
+    {.kind = COMMAND, .number = 3, .before = "REM", .line = "SETLS021110000"},
+    {.kind = COMMAND, .number = 3, .before = "REM", .line = "SETLS001110002"},
     {.kind = COMMAND, .number = 3, .before = "REM;PS0+2147483647", .line = "REL0+1"},
     {.kind = COMMAND, .number = 3, .before = "REM;PS0+2147483647", .line = "JOGP0"},
     /* local mode, before the value: starts that would not move the motor, settings, SPC, all-reply, pause; with a held motor too */
