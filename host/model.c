@@ -1,5 +1,5 @@
 /*
- * Document 01 as amended by §1 to §6 of document 02, in plain C, written from the documents alone. It is compared with
+ * Document 01 as amended by §1 to §7 of document 02, in plain C, written from the documents alone. It is compared with
  * the proved library call by call, and the library's speed is measured beside it. Words in quotation marks are document
  * 01's, unless document 02 is named beside them.
  */
@@ -13,7 +13,7 @@
 enum { HEAD_SIZE = 64, RECORD_SIZE = 64, MOTORS = 16, TABLE_SIZE = 1088, REPLY_LEAST = 32, PULSES_SIZE = 64 };
 
 /* Places in the head. */
-enum { MODE = 0, ALL_REPLY = 1, ERROR_FLAGS = 2, PAUSE = 3, BUSY_SET = 4, HEAD_ZEROS = 6 };
+enum { MODE = 0, ALL_REPLY = 1, ERROR_FLAGS = 2, PAUSE = 3, BUSY_SET = 4, CARD = 6, HEAD_ZEROS = 7 };
 
 /* Places in a record. */
 enum {
@@ -41,6 +41,10 @@ enum {
 };
 
 enum { LOCAL = 0, REMOTE = 1 };
+
+/* 02 §7: "Head byte 6 picks the card (0 sixteen, 1 four)". Both have sixteen channels; the four runs any four. */
+enum { SIXTEEN_CARD = 0, FOUR_CARD = 1, FOUR_CARD_MOST = 4 };
+
 enum { SPEED_L = 0, SPEED_M = 1, SPEED_H = 2 };
 enum { ESEND = 0x80, SSEND = 0x40, LSEND = 0x20, NO_END = 0 };
 enum { SCAN = 0, TO_TARGET = 1 };
@@ -58,7 +62,10 @@ enum { SETLS_DIGITAL = 0x80, SETLS_ENABLES = 4, SETLS_FIXED = 0x08, ALL_CONTACTS
 static const int32_t POSITION_MOST = 2147483647;
 static const uint32_t SPEED_MOST = 5000000;
 
-/* "Numbers handed back". 02 §5: "Split 4 by cause": 7 to 13 stand in its place, and "4 is no longer given". */
+/*
+ * "Numbers handed back". 02 §5: "Split 4 by cause": 7 to 13 stand in its place, and "4 is no longer given". 02 §7: "a
+ * fifth start is 14".
+ */
 enum {
     OK = 0,
     COMMAND_ERROR = 1,
@@ -72,7 +79,8 @@ enum {
     SWITCH_ACTIVE = 10,
     NO_ROOM_LIMIT = 11,
     NO_ROOM_RANGE = 12,
-    SPC_STOPPED = 13
+    SPC_STOPPED = 13,
+    CARD_FULL = 14
 };
 
 /* ---- Numbers in the table, little-endian ---- */
@@ -142,6 +150,28 @@ static inline uint32_t busy_set(const uint8_t *table)
 static inline uint32_t channel_bit(uint32_t channel)
 {
     return (uint32_t)1 << channel;
+}
+
+/* 02 §7: "the number of set bits in the busy word". The bits are added in pairs, in fours and in bytes. */
+static inline uint32_t busy_count(const uint8_t *table)
+{
+    uint32_t set = busy_set(table);
+    uint32_t pairs = set - ((set >> 1) & 0x5555);
+    uint32_t fours = (pairs & 0x3333) + ((pairs >> 2) & 0x3333);
+    uint32_t bytes = (fours + (fours >> 4)) & 0x0f0f;
+    return (bytes + (bytes >> 8)) & 0x1f;
+}
+
+/* 02 §7: "four less that number". For a sound table of the four-motor card, where it is 4 to 0. */
+static inline uint32_t motors_left(const uint8_t *table)
+{
+    return FOUR_CARD_MOST - busy_count(table);
+}
+
+/* For the start of a stopped motor. On the sixteen card, at most the fifteen others are busy then. */
+static inline bool card_full(const uint8_t *table)
+{
+    return table[CARD] == FOUR_CARD && motors_left(table) == 0;
 }
 
 /* 02 §3: "A held channel counts as driving for busy, stops and switch readings, but gets no pulses". */
@@ -300,13 +330,20 @@ static bool motor_sound(const uint8_t *motor, bool in_busy_set, uint32_t state_m
     return in_busy_set ? drive_sound(motor, state_most) : stopped_sound(motor);
 }
 
-/* The zeros are looked at from 6 to 13 and from 8 on. */
+/* 02 §7: "with five busy a four-motor table is not sound", held ones included. That the set is true is asked apart. */
+static inline bool card_sound(const uint8_t *table)
+{
+    return table[CARD] == SIXTEEN_CARD || (table[CARD] == FOUR_CARD && busy_count(table) <= FOUR_CARD_MOST);
+}
+
+/* The zeros are looked at from 7 to 14 and from 8 on. */
 static bool head_sound(const uint8_t *table)
 {
     uint64_t bits = any_bits(table + HEAD_ZEROS);
     for (size_t place = 8; place < HEAD_SIZE; place += 8)
         bits |= any_bits(table + place);
-    return table[MODE] <= REMOTE && table[ALL_REPLY] <= 1 && table[ERROR_FLAGS] <= 15 && table[PAUSE] <= 1 && bits == 0;
+    return table[MODE] <= REMOTE && table[ALL_REPLY] <= 1 && table[ERROR_FLAGS] <= 15 && table[PAUSE] <= 1 &&
+           bits == 0 && card_sound(table);
 }
 
 /*
@@ -346,7 +383,7 @@ enum verb {
     SET_PLACE, SELECT_OR_SET_SPEED, SET_LS, SET_MT,
     SET_MODE, SET_ALL_REPLY, SET_PAUSE, CLEAR_ERRORS,
     READ_PLACE, READ_SELECTED, READ_SPEED, READ_LS, READ_MT, READ_STATUS, READ_ALL_REPLY, READ_PAUSE, READ_BUSY_SET,
-    READ_FLAGS, READ_ERROR
+    READ_MOTORS_LEFT, READ_FLAGS, READ_ERROR
 };
 
 /* The detail is the direction, end flag, place in the record, speed or value that tells forms of one verb apart. */
@@ -446,6 +483,7 @@ static const struct form FORMS_SS[] = {
 };
 static const struct form FORMS_ST[] = {
     FORM("STS", CHANNEL_ASK, READ, READ_STATUS, 0),
+    FORM("STQ?", NOTHING, READ, READ_MOTORS_LEFT, 0),
     NO_FORM
 };
 static const struct form FORMS_NONE[] = {NO_FORM};
@@ -650,8 +688,14 @@ static bool take_tail(struct reader *reader, struct order *order)
     }
 }
 
-/* False for a line of no form. Every form has 3 to 15 bytes, so a line over 80 bytes has none. */
-static bool read_order(const uint8_t *line, size_t line_size, struct order *order)
+/* The row that ends a list is no form. STQ? is the four-motor card's; 02 §7: "On the sixteen card it is 1." */
+static inline bool on_card(const struct form *form, uint32_t card)
+{
+    return form->verb != NO_VERB && (form->verb != READ_MOTORS_LEFT || card == FOUR_CARD);
+}
+
+/* False for a line of no form on this card. Every form has 3 to 15 bytes, so a line over 80 bytes has none. */
+static bool read_order(const uint8_t *line, size_t line_size, uint32_t card, struct order *order)
 {
     if (line_size < 2)
         return false;
@@ -659,7 +703,7 @@ static bool read_order(const uint8_t *line, size_t line_size, struct order *orde
     const struct form *form = forms_from(line[0], line[1]);
     while (!begins(&reader, form))
         form++;
-    if (form->verb == NO_VERB)
+    if (!on_card(form, card))
         return false;
     order->form = form;
     order->in_range = true;
@@ -678,9 +722,10 @@ static uint32_t speed_place(uint32_t speed)
 /*
  * The last checks of a start. 02 §5: "Refusals, in this order, 8 to 12 for starts only". 02 §2: "a start on an unread
  * channel" is refused "after the target check", whatever switches are enabled. At the end of the range there is no
- * room, wherever a limit lies, 02 §5: "where both, 12"; short of it, only a limit can leave none.
+ * room, wherever a limit lies, 02 §5: "where both, 12"; short of it, only a limit can leave none. 02 §7: "a fifth start
+ * is 14, after 13", so it is the last.
  */
-static inline uint32_t start_refusal(const uint8_t *motor, uint32_t direction)
+static inline uint32_t start_refusal(const uint8_t *table, const uint8_t *motor, uint32_t direction)
 {
     if (motor[SETMT_A] == 0)
         return MOTOR_DISABLED;
@@ -688,9 +733,9 @@ static inline uint32_t start_refusal(const uint8_t *motor, uint32_t direction)
         return CONTACTS_UNREAD;
     if (switch_ahead(motor, direction))
         return SWITCH_ACTIVE;
-    if (room(motor, direction) >= 1)
-        return OK;
-    return load_signed(motor + POSITION) == range_end(direction) ? NO_ROOM_RANGE : NO_ROOM_LIMIT;
+    if (room(motor, direction) < 1)
+        return load_signed(motor + POSITION) == range_end(direction) ? NO_ROOM_RANGE : NO_ROOM_LIMIT;
+    return card_full(table) ? CARD_FULL : OK;
 }
 
 /*
@@ -701,7 +746,7 @@ static inline uint32_t start_refusal(const uint8_t *motor, uint32_t direction)
 static uint32_t start(uint8_t *table, uint32_t channel, uint8_t direction, uint8_t kind, int32_t target)
 {
     uint8_t *motor = motor_of(table, channel);
-    uint32_t number = start_refusal(motor, direction);
+    uint32_t number = start_refusal(table, motor, direction);
     if (number != OK)
         return number;
     motor[END_FLAGS] = NO_END;
@@ -713,7 +758,10 @@ static uint32_t start(uint8_t *table, uint32_t channel, uint8_t direction, uint8
     return OK;
 }
 
-/* "ABS to the present position, REL 0 [...] are OK and change nothing", on an unread channel and under pause too. */
+/*
+ * "ABS to the present position, REL 0 [...] are OK and change nothing", on an unread channel, under pause and on a full
+ * card too.
+ */
 static uint32_t start_to(uint8_t *table, uint32_t channel, int64_t target)
 {
     int32_t position = load_signed(motor_of(table, channel) + POSITION);
@@ -947,11 +995,24 @@ static inline uint32_t shown_end(const uint8_t *motor)
     return moving(motor) ? 0x03 : 0x01;
 }
 
+static inline uint8_t mode_letter(const uint8_t *table)
+{
+    return table[MODE] == REMOTE ? 'R' : 'L';
+}
+
+/* 02 §7: "R or L and four less that number". Only the four-motor card has this read, so it is one digit. */
+static size_t write_motors_left(uint8_t *to, const uint8_t *table)
+{
+    to[0] = mode_letter(table);
+    to[1] = HEX[motors_left(table)];
+    return 2;
+}
+
 /* "STSx?: R or L; x; P, N or S; one hex digit V; two hex digits HH; position." */
 static size_t write_status(uint8_t *to, const uint8_t *table, const uint8_t *motor, uint32_t channel)
 {
     uint32_t hold_off = !busy(motor) && motor[SETMT_B] == 0 ? 8 : 0;
-    to[0] = table[MODE] == REMOTE ? 'R' : 'L';
+    to[0] = mode_letter(table);
     to[1] = HEX[channel];
     to[2] = STATE_LETTERS[motor[STATE]];
     to[3] = HEX[shown_switches(motor) | hold_off];
@@ -1005,6 +1066,8 @@ static size_t answer(uint8_t *reply, const uint8_t *table, const uint8_t *motor,
         return write_text(reply, &PAUSE_TEXTS[table[PAUSE]]);
     case READ_BUSY_SET:
         return write_busy_set(reply, busy_set(table));
+    case READ_MOTORS_LEFT:
+        return write_motors_left(reply, table);
     case READ_FLAGS:
         return write_hex2(reply, table[ERROR_FLAGS]);
     default:
@@ -1043,13 +1106,14 @@ static int32_t tick_motor(uint8_t *table, uint32_t channel)
 
 /*
  * 02 §2: "Contacts must be unknown until the channel's first accepted reading." Contacts and byte 44 are 0. All motors
- * are stopped, so the busy set is 0 too.
+ * are stopped, so the busy set is 0 too. The card is set here and nowhere else.
  */
-uint32_t model_fresh(uint8_t *table, size_t table_size)
+uint32_t model_fresh(uint8_t *table, size_t table_size, uint32_t card)
 {
-    if (table_size != TABLE_SIZE)
+    if (table_size != TABLE_SIZE || card > FOUR_CARD)
         return WRONG_SIZE;
     memset(table, 0, TABLE_SIZE);
+    table[CARD] = (uint8_t)card;
     for (uint32_t channel = 0; channel < MOTORS; channel++) {
         uint8_t *motor = motor_of(table, channel);
         store4(motor + CW_LIMIT, 1000000);
@@ -1074,7 +1138,7 @@ uint32_t model_command(uint8_t *table, size_t table_size, const uint8_t *line, s
         return NOT_SOUND;
     struct order order = {0};
     uint32_t number = COMMAND_ERROR;
-    if (read_order(line, line_size, &order)) {
+    if (read_order(line, line_size, table[CARD], &order)) {
         uint8_t *motor = motor_of(table, order.channel);
         if (order.form->taken == READ)
             return OK + 256 * (uint32_t)answer(reply, table, motor, &order);

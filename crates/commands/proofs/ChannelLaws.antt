@@ -1,7 +1,7 @@
 -- The channel that an order of a line names is one of the sixteen. Assumes nothing.
 use mathlib.Core.Path.{_≡_, refl}
 use mathlib.Core.List.{List, [], _∷_}
-use mathlib.Core.Bool.{true, cond}
+use mathlib.Core.Bool.{Bool, true, cond}
 use types.Run.{OneOf, miss}
 use denote.Enum.Declared.{tagOf}
 use Prim.Native.Nat.{ℕ, _≤_}
@@ -42,13 +42,13 @@ abbrev pub unjudged : List ℕ
 unjudged = 1 ∷ 2 ∷ 5 ∷ 6 ∷ 7 ∷ []
 
 -- They are never busy, and nothing of a motor refuses them.
-pub others-done : (t : List ℕ) (o : Order) → OneOf unjudged (tagOf T.the-type o) → cond (meetsBusy t o) Busy (judgeMotor t o) ≡ Done
+pub others-done : (full : Bool) (t : List ℕ) (o : Order) → OneOf unjudged (tagOf T.the-type o) → cond (meetsBusy t o) Busy (judgeMotor full t o) ≡ Done
 unfolding meetsBusy judgeMotor
-others-done t (Go x s) h = absurd (miss unjudged 0 tt h)
-others-done t (Stop x flags) h = refl
-others-done t (StopAll flags) h = refl
-others-done t (ChangeSpeed x v) h = absurd (miss unjudged 3 tt h)
-others-done t (Set x s) h = absurd (miss unjudged 4 tt h)
-others-done t (Ask x q) h = refl
-others-done t (AskHead q) h = refl
-others-done t (ForHead o) h = refl
+others-done full t (Go x s) h = absurd (miss unjudged 0 tt h)
+others-done full t (Stop x flags) h = refl
+others-done full t (StopAll flags) h = refl
+others-done full t (ChangeSpeed x v) h = absurd (miss unjudged 3 tt h)
+others-done full t (Set x s) h = absurd (miss unjudged 4 tt h)
+others-done full t (Ask x q) h = refl
+others-done full t (AskHead q) h = refl
+others-done full t (ForHead o) h = refl

@@ -11,7 +11,7 @@ use Rattle.line.specs.declared.Order.{Order}
 use Rattle.line.specs.declared.Order.the-variants.{Go, Stop, StopAll, ChangeSpeed, Set, Ask, AskHead, ForHead}
 use Rattle.orders.specs.Values.{needsRemote, valueInRange}
 use Rattle.orders.specs.Settings.{courseOf}
-use Rattle.table.specs.Layout.{headOf, motorAt}
+use Rattle.table.specs.Layout.{headOf, full, motorAt}
 
 -- "a start, setting or speed selection (not SPC) of a driving channel"
 unfoldable pub meetsBusy : List ℕ → Order → Bool
@@ -25,22 +25,26 @@ meetsBusy t (AskHead q) = false
 meetsBusy t (ForHead h) = false
 
 -- what is judged after busy: "target out of range .., the other causes of 4", which lie in the motor. 02 §5: "8 to 12 for starts only",
--- and 13 for SPC
-unfoldable pub judgeMotor : List ℕ → Order → Verdict
-judgeMotor t (Go x s) = judgeStart (motorAt t x) (courseOf (motorAt t x) s)
-judgeMotor t (Stop x e) = Done
-judgeMotor t (StopAll e) = Done
-judgeMotor t (ChangeSpeed x v) = judgeSpeedChange (motorAt t x)
-judgeMotor t (Set x s) = Done
-judgeMotor t (Ask x q) = Done
-judgeMotor t (AskHead q) = Done
-judgeMotor t (ForHead h) = Done
+-- and 13 for SPC. 02 §7: a start's last check is whether as many motors are busy as may be
+unfoldable pub judgeMotor : Bool → List ℕ → Order → Verdict
+judgeMotor full t (Go x s) = judgeStart full (motorAt t x) (courseOf (motorAt t x) s)
+judgeMotor full t (Stop x e) = Done
+judgeMotor full t (StopAll e) = Done
+judgeMotor full t (ChangeSpeed x v) = judgeSpeedChange (motorAt t x)
+judgeMotor full t (Set x s) = Done
+judgeMotor full t (Ask x q) = Done
+judgeMotor full t (AskHead q) = Done
+judgeMotor full t (ForHead h) = Done
 
 -- "Order: .. local mode, value, busy, target out of range .., the other causes of 4." 02 §3: "Refusals: none new". 02 §5: "7 keeps local
--- mode's place"
-unfoldable pub judge : List ℕ → Order → Verdict
-judge t o =
+-- mode's place". This is the verdict where the card is full, or not
+unfoldable pub judgeWhere : Bool → List ℕ → Order → Verdict
+judgeWhere full t o =
     cond (needsRemote o && eqb (headOf t .mode) 0) LocalMode
     (cond (not (valueInRange o)) OutOfRange
     (cond (meetsBusy t o) Busy
-    (judgeMotor t o)))
+    (judgeMotor full t o)))
+
+-- 02 §7: "the number of set bits in the busy word decides whether a start is taken"
+unfoldable pub judge : List ℕ → Order → Verdict
+judge t o = judgeWhere (full (headOf t)) t o

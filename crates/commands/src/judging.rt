@@ -10,6 +10,7 @@ use orders::settings::course_of;
 use orders::values::needs_remote;
 use orders::values::value_in_range;
 use record::Motor;
+use table::head::is_full;
 use table::head::read_head;
 use table::motor_at;
 ghost use mathlib.Core.Path.{_≡_};
@@ -21,18 +22,18 @@ ghost use Rattle.drive.specs.Drives.{judgeStart};
 ghost use Rattle.line.specs.Made.{orderMade};
 ghost use Rattle.orders.specs.Values.{startInRange, valueInRange};
 ghost use Rattle.orders.specs.Settings.{courseOf};
-ghost use Rattle.table.specs.Layout.{tableSize};
+ghost use Rattle.table.specs.Layout.{tableSize, headOf, full};
 ghost use Rattle.commands.specs.Judging.{meetsBusy, judgeMotor, judge};
 
-// A start: busy on a driving channel, else as the motor allows.
-fn judge_go(m: Motor, s: Start) -> Verdict
+// A start: busy on a driving channel, else as the motor allows and then the card.
+fn judge_go(full: bool, m: Motor, s: Start) -> Verdict
     requires { ⌜ startInRange s ≡ true ⌝ }
-    ensures { λ r. ⌜ r ≡ cond (busy m) Busy (judgeStart m (courseOf m s)) ⌝ }
+    ensures { λ r. ⌜ r ≡ cond (busy m) Busy (judgeStart full m (courseOf m s)) ⌝ }
 {
     if is_busy(m) {
         Verdict::Busy
     } else {
-        judge_start(m, course_of(m, s))
+        judge_start(full, m, course_of(m, s))
     }
 }
 
@@ -50,10 +51,10 @@ fn judge_set(m: Motor) -> Verdict
 // What is judged of the channel that an order names, if it names one.
 fn judge_channel(t: &[u8], o: Order) -> Verdict
     requires { ⌜ (length (now t) ≡ tableSize) × (orderMade o ≡ true) × (valueInRange o ≡ true) ⌝ }
-    ensures { λ r. ⌜ r ≡ cond (meetsBusy (now (t .entry)) o) Busy (judgeMotor (now (t .entry)) o) ⌝ }
+    ensures { λ r. ⌜ r ≡ cond (meetsBusy (now (t .entry)) o) Busy (judgeMotor (full (headOf (now (t .entry)))) (now (t .entry)) o) ⌝ }
 {
     match o {
-        Order::Go(x, s) => judge_go(motor_at(t, x), s),
+        Order::Go(x, s) => judge_go(is_full(read_head(t)), motor_at(t, x), s),
         Order::ChangeSpeed(x, _) => judge_speed_change(motor_at(t, x)),
         Order::Set(x, _) => judge_set(motor_at(t, x)),
         _ => Verdict::Done,

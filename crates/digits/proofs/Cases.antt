@@ -4,7 +4,7 @@ use mathlib.Core.List.{[], _∷_}
 use mathlib.Core.Bool.{true, false}
 use lib.Dec.{eqb, leb}
 use Rattle.digits.specs.Bytes.{part, put, pieces, every, gather, allZero}
-use Rattle.digits.specs.Words.{word, wordBytes, withBit, withoutBit, marked, bitsOf}
+use Rattle.digits.specs.Words.{word, wordBytes, withBit, withoutBit, marked, bitsOf, howMany, bitsSet}
 use Rattle.digits.specs.Places.{origin, placeOf, wordOf, countOf, cw, ccw}
 use Rattle.digits.specs.Computing.{computing-digits}
 
@@ -40,3 +40,9 @@ sets :
     × (marked true 15 8 ≡ 0x8008) × (marked false 3 0x8008 ≡ 0x8000) × (marked true 3 8 ≡ 8) × (marked false 2 8 ≡ 8)
 unfolding computing-digits
 sets = (refl, refl, refl, refl, refl, refl, refl)
+
+-- the bits that are set are as many as the channels in the set
+counted :
+    (bitsSet 0 ≡ 0) × (bitsSet 0xffff ≡ 16) × (bitsSet 0x400b ≡ 4) × (bitsSet 0x8000 ≡ 1) × (howMany (λ c. leb 12 c) 16 ≡ 4)
+unfolding computing-digits
+counted = (refl, refl, refl, refl, refl)

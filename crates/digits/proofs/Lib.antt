@@ -4,3 +4,4 @@ pub mod PartLaws
 pub mod Signed
 pub mod PutLaws
 pub mod SetLaws
+pub mod CountLaws

@@ -3,6 +3,7 @@ use Prim.Native.Nat.{ℕ, zero, suc, _+_, _*_, _-_, _/_, _%_, _^_}
 use mathlib.Core.List.{List, [], _∷_}
 use mathlib.Core.Bool.{Bool, cond}
 use lib.Dec.{eqb}
+use lib.Count.{onesIn}
 
 -- "little-endian": the number that bytes stand for, the first byte lowest
 unfoldable pub word : List ℕ → ℕ
@@ -38,3 +39,12 @@ marked on k n = cond on (withBit k n) (withoutBit k n)
 unfoldable pub bitsOf : (ℕ → Bool) → ℕ → ℕ
 bitsOf f zero = 0
 bitsOf f (suc k) = cond (f 0) 1 0 + 2 * bitsOf (λ i. f (suc i)) k
+
+-- how many of the numbers below k f holds of
+unfoldable pub howMany : (ℕ → Bool) → ℕ → ℕ
+howMany f zero = 0
+howMany f (suc k) = cond (f 0) 1 0 + howMany (λ i. f (suc i)) k
+
+-- how many of the sixteen bits of a word are set
+abbrev pub bitsSet : ℕ → ℕ
+bitsSet n = onesIn 16 n

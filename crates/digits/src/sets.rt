@@ -2,7 +2,7 @@
 
 ghost use mathlib.Core.Path.{_≡_};
 ghost use Prim.Native.Nat.{_≤_};
-ghost use Rattle.digits.specs.Words.{isSet, marked};
+ghost use Rattle.digits.specs.Words.{isSet, marked, bitsSet};
 
 // Whether a channel is in a set. The number is widened first: of 32 bits the processor tests one by itself.
 pub fn has(set: u16, k: u8) -> bool
@@ -19,4 +19,11 @@ pub fn mark(on: bool, k: u8, set: u16) -> u16
 {
     let own: u16 = 1 << k;
     if on { set | own } else { set - (set & own) }
+}
+
+// How many channels are in a set.
+pub fn count(set: u16) -> u32
+    ensures { λ r. ⌜ r ≡ bitsSet set ⌝ }
+{
+    u16::count_ones(set)
 }

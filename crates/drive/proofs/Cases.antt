@@ -8,7 +8,7 @@ use Rattle.digits.specs.Places.{origin, lowest, highest, cw, ccw}
 use Rattle.record.specs.declared.Motor.{Motor}
 use Rattle.record.specs.Record.{freshMotor, withPlace, withLimits, withWiring, withSetup}
 use Rattle.drive.specs.declared.Course.the-variants.{Stay, Beyond, To, Along}
-use Rattle.drive.specs.declared.Verdict.the-variants.{Done, NoForm, Busy, OutOfRange, WrongSize, NotSound, LocalMode, Disabled, Unread, SwitchAhead, AtLimit, AtRangeEnd, NotDriving}
+use Rattle.drive.specs.declared.Verdict.the-variants.{Done, NoForm, Busy, OutOfRange, WrongSize, NotSound, LocalMode, Disabled, Unread, SwitchAhead, AtLimit, AtRangeEnd, NotDriving, Full}
 use Rattle.drive.specs.Numbers.{numberOf, isSilent, isRefusal, flagBit}
 use Rattle.drive.specs.Drives.{courseTo, judgeStart, wellAimed, started, released, stopped, speedChanged, contacted, switchRead}
 use Rattle.drive.specs.Computing.{computing-drive}
@@ -72,23 +72,23 @@ disabled = withSetup freshMotor (record { a = 0; b = 1; c = 0; d = 0 })
 -- Starts of a stopped motor as they are judged: to the present place, whatever A says; past the range; with A = 0, unread besides;
 -- onto an active switch; and onto a digital limit.
 starts :
-    (courseTo freshMotor cw origin 0 ≡ Stay) × (judgeStart disabled Stay ≡ Done)
+    (courseTo freshMotor cw origin 0 ≡ Stay) × (judgeStart false disabled Stay ≡ Done)
     × (courseTo freshMotor ccw origin 2147483648 ≡ Beyond) × (courseTo freshMotor cw (origin + 1) 2147483647 ≡ Beyond)
-    × (courseTo freshMotor ccw (origin - 1) 2147483646 ≡ To 1) × (judgeStart disabled Beyond ≡ OutOfRange)
-    × (judgeStart disabled (Along cw) ≡ Disabled) × (judgeStart (wired 0b00010001 0 1) (Along cw) ≡ SwitchAhead)
-    × (judgeStart (wired 0b00010001 0 1) (Along ccw) ≡ Done) × (judgeStart (limited 0 1) (To (origin + 9)) ≡ AtLimit)
-    × (judgeStart (limited 0 1) (To (origin - 9)) ≡ Done)
+    × (courseTo freshMotor ccw (origin - 1) 2147483646 ≡ To 1) × (judgeStart false disabled Beyond ≡ OutOfRange)
+    × (judgeStart false disabled (Along cw) ≡ Disabled) × (judgeStart false (wired 0b00010001 0 1) (Along cw) ≡ SwitchAhead)
+    × (judgeStart false (wired 0b00010001 0 1) (Along ccw) ≡ Done) × (judgeStart false (limited 0 1) (To (origin + 9)) ≡ AtLimit)
+    × (judgeStart false (limited 0 1) (To (origin - 9)) ≡ Done)
 unfolding computing-drive disabled wired limited
 starts = (refl, refl, refl, refl, refl, refl, refl, refl, refl, refl, refl)
 
 -- 02 §2: an unread motor does not leave, either way, whatever SETLS enables and whatever room there is; to the present place is done,
 -- and past the range is out of range. Read, it leaves, but for what a switch or the room hinders.
 unread-starts :
-    (map (judgeStart freshMotor) (Along cw ∷ Along ccw ∷ To 1 ∷ To highest ∷ Stay ∷ Beyond ∷ []) ≡ Unread ∷ Unread ∷ Unread ∷ Unread ∷ Done ∷ OutOfRange ∷ [])
-    × (map (λ w. judgeStart (wired w 0 0) (Along cw)) (0 ∷ 0b00010001 ∷ 0b00000001 ∷ []) ≡ Unread ∷ Unread ∷ Unread ∷ [])
-    × (judgeStart (limited 0 0) (Along cw) ≡ Unread)
-    × (map (λ n. judgeStart (switchRead freshMotor n) (Along cw)) (0 ∷ 1 ∷ 2 ∷ 4 ∷ []) ≡ Done ∷ SwitchAhead ∷ Done ∷ Done ∷ [])
-    × (map (λ n. judgeStart (switchRead freshMotor n) (Along ccw)) (0 ∷ 1 ∷ 2 ∷ 4 ∷ []) ≡ Done ∷ Done ∷ SwitchAhead ∷ Done ∷ [])
+    (map (judgeStart false freshMotor) (Along cw ∷ Along ccw ∷ To 1 ∷ To highest ∷ Stay ∷ Beyond ∷ []) ≡ Unread ∷ Unread ∷ Unread ∷ Unread ∷ Done ∷ OutOfRange ∷ [])
+    × (map (λ w. judgeStart false (wired w 0 0) (Along cw)) (0 ∷ 0b00010001 ∷ 0b00000001 ∷ []) ≡ Unread ∷ Unread ∷ Unread ∷ [])
+    × (judgeStart false (limited 0 0) (Along cw) ≡ Unread)
+    × (map (λ n. judgeStart false (switchRead freshMotor n) (Along cw)) (0 ∷ 1 ∷ 2 ∷ 4 ∷ []) ≡ Done ∷ SwitchAhead ∷ Done ∷ Done ∷ [])
+    × (map (λ n. judgeStart false (switchRead freshMotor n) (Along ccw)) (0 ∷ 1 ∷ 2 ∷ 4 ∷ []) ≡ Done ∷ Done ∷ SwitchAhead ∷ Done ∷ [])
 unfolding computing-drive wired limited
 unread-starts = (refl, refl, refl, refl, refl)
 
@@ -104,28 +104,28 @@ atEnd a setls read = withPlace (withSetup (wired setls 0 read) (record { a = a; 
 -- of the range, wherever the limit lies; with D = 0; inside the range, with the limit behind, where the motor stands, and ahead; and at
 -- the other end, where the range goes on.
 no-room :
-    (map (λ p. judgeStart (bounded 0b11110000 highest p) (Along cw)) (lowest ∷ origin ∷ highest ∷ []) ≡ replicate 3 AtRangeEnd)
-    × (map (λ p. judgeStart (bounded 0b11110000 lowest p) (Along ccw)) (lowest ∷ origin ∷ highest ∷ []) ≡ replicate 3 AtRangeEnd)
-    × (judgeStart (bounded 0b01110000 highest origin) (Along cw) ≡ AtRangeEnd) × (judgeStart (bounded 0b01110000 lowest origin) (Along ccw) ≡ AtRangeEnd)
-    × (map (λ p. judgeStart (bounded 0b11110000 (origin + 5) p) (Along cw)) (lowest ∷ (origin + 4) ∷ (origin + 5) ∷ (origin + 6) ∷ []) ≡ AtLimit ∷ AtLimit ∷ AtLimit ∷ Done ∷ [])
-    × (map (λ p. judgeStart (bounded 0b11110000 (origin + 5) p) (Along ccw)) (highest ∷ (origin + 6) ∷ (origin + 5) ∷ (origin + 4) ∷ []) ≡ AtLimit ∷ AtLimit ∷ AtLimit ∷ Done ∷ [])
-    × (judgeStart (bounded 0b11110000 lowest lowest) (Along cw) ≡ AtLimit) × (judgeStart (bounded 0b11110000 highest highest) (Along ccw) ≡ AtLimit)
+    (map (λ p. judgeStart false (bounded 0b11110000 highest p) (Along cw)) (lowest ∷ origin ∷ highest ∷ []) ≡ replicate 3 AtRangeEnd)
+    × (map (λ p. judgeStart false (bounded 0b11110000 lowest p) (Along ccw)) (lowest ∷ origin ∷ highest ∷ []) ≡ replicate 3 AtRangeEnd)
+    × (judgeStart false (bounded 0b01110000 highest origin) (Along cw) ≡ AtRangeEnd) × (judgeStart false (bounded 0b01110000 lowest origin) (Along ccw) ≡ AtRangeEnd)
+    × (map (λ p. judgeStart false (bounded 0b11110000 (origin + 5) p) (Along cw)) (lowest ∷ (origin + 4) ∷ (origin + 5) ∷ (origin + 6) ∷ []) ≡ AtLimit ∷ AtLimit ∷ AtLimit ∷ Done ∷ [])
+    × (map (λ p. judgeStart false (bounded 0b11110000 (origin + 5) p) (Along ccw)) (highest ∷ (origin + 6) ∷ (origin + 5) ∷ (origin + 4) ∷ []) ≡ AtLimit ∷ AtLimit ∷ AtLimit ∷ Done ∷ [])
+    × (judgeStart false (bounded 0b11110000 lowest lowest) (Along cw) ≡ AtLimit) × (judgeStart false (bounded 0b11110000 highest highest) (Along ccw) ≡ AtLimit)
 unfolding computing-drive bounded wired
 no-room = (refl, refl, refl, refl, refl, refl, refl, refl)
 
 -- 02 §5: "Refusals, in this order": a motor with A = 0 that was not read, with its CW switch N.C. and so active, at the end of the range,
 -- and then one cause after the other taken away. Out of range comes before all of them.
 ordered :
-    (judgeStart (atEnd 0 0b01110001 0) Beyond ≡ OutOfRange) × (judgeStart (atEnd 0 0b01110001 0) (Along cw) ≡ Disabled)
-    × (judgeStart (atEnd 1 0b01110001 0) (Along cw) ≡ Unread) × (judgeStart (atEnd 1 0b01110001 1) (Along cw) ≡ SwitchAhead)
-    × (judgeStart (atEnd 1 0b01110000 1) (Along cw) ≡ AtRangeEnd) × (judgeStart (atEnd 1 0b01110000 1) (Along ccw) ≡ Done)
+    (judgeStart false (atEnd 0 0b01110001 0) Beyond ≡ OutOfRange) × (judgeStart false (atEnd 0 0b01110001 0) (Along cw) ≡ Disabled)
+    × (judgeStart false (atEnd 1 0b01110001 0) (Along cw) ≡ Unread) × (judgeStart false (atEnd 1 0b01110001 1) (Along cw) ≡ SwitchAhead)
+    × (judgeStart false (atEnd 1 0b01110000 1) (Along cw) ≡ AtRangeEnd) × (judgeStart false (atEnd 1 0b01110000 1) (Along ccw) ≡ Done)
 unfolding computing-drive atEnd wired
 ordered = (refl, refl, refl, refl, refl, refl)
 
 -- "Numbers handed back", cause by cause, in the order of the lists.
 numbers :
-    map numberOf (Done ∷ NoForm ∷ Busy ∷ OutOfRange ∷ WrongSize ∷ NotSound ∷ LocalMode ∷ Disabled ∷ Unread ∷ SwitchAhead ∷ AtLimit ∷ AtRangeEnd ∷ NotDriving ∷ [])
-    ≡ 0 ∷ 1 ∷ 2 ∷ 3 ∷ 5 ∷ 6 ∷ 7 ∷ 8 ∷ 9 ∷ 10 ∷ 11 ∷ 12 ∷ 13 ∷ []
+    map numberOf (Done ∷ NoForm ∷ Busy ∷ OutOfRange ∷ WrongSize ∷ NotSound ∷ LocalMode ∷ Disabled ∷ Unread ∷ SwitchAhead ∷ AtLimit ∷ AtRangeEnd ∷ NotDriving ∷ Full ∷ [])
+    ≡ 0 ∷ 1 ∷ 2 ∷ 3 ∷ 5 ∷ 6 ∷ 7 ∷ 8 ∷ 9 ∷ 10 ∷ 11 ∷ 12 ∷ 13 ∷ 14 ∷ []
 unfolding computing-drive
 numbers = refl
 
@@ -135,3 +135,13 @@ courses :
     ≡ true ∷ true ∷ true ∷ true ∷ true ∷ true ∷ false ∷ false ∷ false ∷ false ∷ []
 unfolding computing-drive
 courses = refl
+
+-- 02 §7: "a fifth start is 14, after 13": on a full card it is the last of the causes, and what moves nothing does not meet it
+full-card :
+    (map (judgeStart true freshMotor) (Along cw ∷ To 1 ∷ Stay ∷ Beyond ∷ []) ≡ Unread ∷ Unread ∷ Done ∷ OutOfRange ∷ [])
+    × (map (λ n. judgeStart true (switchRead freshMotor n) (Along cw)) (0 ∷ 1 ∷ []) ≡ Full ∷ SwitchAhead ∷ [])
+    × (map (judgeStart true (switchRead freshMotor 0)) (Along ccw ∷ To 1 ∷ Stay ∷ []) ≡ Full ∷ Full ∷ Done ∷ [])
+    × (judgeStart true disabled (Along cw) ≡ Disabled) × (judgeStart true (limited 0 1) (To (origin + 9)) ≡ AtLimit)
+    × (judgeStart true (atEnd 1 0b01110000 1) (Along cw) ≡ AtRangeEnd) × (flagBit 14 ≡ 3)
+unfolding computing-drive disabled limited atEnd wired
+full-card = (refl, refl, refl, refl, refl, refl, refl)

@@ -19,7 +19,7 @@ use Rattle.motor.proofs.SoundLaws.{and-l, and-r, position-bounds, speed-bounds,
 use Rattle.motor.proofs.RoomLaws.{room-at-end}
 use Rattle.drive.specs.declared.Course.{Course}
 use Rattle.drive.specs.declared.Course.the-variants.{Stay, Beyond, To, Along}
-use Rattle.drive.specs.declared.Verdict.the-variants.{Done, Disabled, Unread, SwitchAhead, AtLimit, AtRangeEnd}
+use Rattle.drive.specs.declared.Verdict.the-variants.{Done, Disabled, Unread, SwitchAhead, AtLimit, AtRangeEnd, Full}
 use Rattle.drive.specs.Drives.{lsend, speedNumbered, selectedSpeed, courseTo, towards, atRangeEnd, hindrance, judgeStart, wellAimed, launched, started, released, endedWith, stopped, speedChanged, contacted, switchRead}
 
 -- A drive that ends leaves a sound motor, whatever ends it.
@@ -81,36 +81,38 @@ course-aimed m going p n = go (eqb (moved going p n) (m .place)) refl (isPositio
     go false e true f = rw (f, e)
     go false e false f = refl
 
--- What nothing keeps from leaving has A = 1, contacts that are read, no active enabled switch ahead, and room.
-pub record Unhindered (m : Motor) (going : ℕ) : Type 0 where
+-- What nothing keeps from leaving has A = 1, contacts that are read, no active enabled switch ahead, and room, on a card that is not full.
+pub record Unhindered (full : Bool) (m : Motor) (going : ℕ) : Type 0 where
   pub ready : eqb (m .setup .a) 0 ≡ false
   pub read : unread (m .wiring) ≡ false
   pub clear : blocked going m ≡ false
   pub leeway : eqb (room going m) 0 ≡ false
+  pub spare : full ≡ false
 
-pub nothing-hinders : (m : Motor) (going : ℕ) → hindrance m going ≡ Done → Unhindered m going
+pub nothing-hinders : (full : Bool) (m : Motor) (going : ℕ) → hindrance full m going ≡ Done → Unhindered full m going
 unfolding hindrance
-nothing-hinders m going h =
-    let p = go (eqb (m .setup .a) 0) (unread (m .wiring)) (blocked going m) (atRangeEnd m going) (eqb (room going m) 0) h in
-    record { ready = p .0; read = p .1; clear = p .2; leeway = p .3 }
+nothing-hinders full m going h =
+    let p = go (eqb (m .setup .a) 0) (unread (m .wiring)) (blocked going m) (atRangeEnd m going) (eqb (room going m) 0) full h in
+    record { ready = p .0; read = p .1; clear = p .2; leeway = p .3; spare = p .4 }
   where
-    go : (a u b e r : Bool) → cond a Disabled (cond u Unread (cond b SwitchAhead (cond e AtRangeEnd (cond r AtLimit Done)))) ≡ Done
-        → (a ≡ false) × (u ≡ false) × (b ≡ false) × (r ≡ false)
-    go true u b e r h = (cc, cc, cc, cc)
-    go false true b e r h = (refl, cc, cc, cc)
-    go false false true e r h = (refl, refl, cc, cc)
-    go false false false true r h = (refl, refl, refl, cc)
-    go false false false false true h = (refl, refl, refl, cc)
-    go false false false false false h = (refl, refl, refl, refl)
+    go : (a u b e r f : Bool) → cond a Disabled (cond u Unread (cond b SwitchAhead (cond e AtRangeEnd (cond r AtLimit (cond f Full Done))))) ≡ Done
+        → (a ≡ false) × (u ≡ false) × (b ≡ false) × (r ≡ false) × (f ≡ false)
+    go true u b e r f h = (cc, cc, cc, cc, cc)
+    go false true b e r f h = (refl, cc, cc, cc, cc)
+    go false false true e r f h = (refl, refl, cc, cc, cc)
+    go false false false true r f h = (refl, refl, refl, cc, cc)
+    go false false false false true f h = (refl, refl, refl, cc, cc)
+    go false false false false false true h = (refl, refl, refl, refl, cc)
+    go false false false false false false h = (refl, refl, refl, refl, refl)
 
 -- And nothing else keeps a motor from leaving: at the end of the range there is no room, so 12 refuses no start that 11 would not.
-pub unhindered-leaves : (m : Motor) (going : ℕ) → Unhindered m going → hindrance m going ≡ Done
+pub unhindered-leaves : (full : Bool) (m : Motor) (going : ℕ) → Unhindered full m going → hindrance full m going ≡ Done
 unfolding hindrance
-unhindered-leaves m going u = go (atRangeEnd m going) refl
+unhindered-leaves full m going u = go (atRangeEnd m going) refl
   where
-    go : (e : Bool) → atRangeEnd m going ≡ e → hindrance m going ≡ Done
+    go : (e : Bool) → atRangeEnd m going ≡ e → hindrance full m going ≡ Done
     go true e = absurd (false≢true (rw (room-at-end going m (eqb-true (m .place) (rangeEnd going) e)) at (sym (u .leeway))))
-    go false e = rw (u .ready, u .read, u .clear, e, u .leeway)
+    go false e = rw (u .ready, u .read, u .clear, e, u .leeway, u .spare)
 
 -- The selected speed of a sound motor is a speed.
 pub selected-bounds : (m : Motor) → InRange m → (1 ≤ selectedSpeed m) × (selectedSpeed m ≤ 5000000)
@@ -127,11 +129,11 @@ selected-bounds m r = go (eqb (m .speeds .selected) 0) (eqb (m .speeds .selected
 
 -- An accepted start leaves a sound motor.
 launched-sound :
-    (paused : Bool) (m : Motor) (going kind target : ℕ) → InRange m → hindrance m going ≡ Done → 1 ≤ going → going ≤ 2 → kind ≤ 1
+    (full paused : Bool) (m : Motor) (going kind target : ℕ) → InRange m → hindrance full m going ≡ Done → 1 ≤ going → going ≤ 2 → kind ≤ 1
     → isPosition target ≡ true → aimRight (launched paused m going kind target) ≡ true → soundMotor (launched paused m going kind target) ≡ true
 unfolding room edge blocked
-launched-sound paused m going kind target r h low high k t a =
-    let n = nothing-hinders m going h in
+launched-sound full paused m going kind target r h low high k t a =
+    let n = nothing-hinders full m going h in
     let v = selected-bounds m r in
     let drive = bounds-drive (launched paused m going kind target .drive) high k (omega arith) t in
     let ready : m .setup .a ≡ 1 = omega (arith, eqb-false (m .setup .a) 0 (n .ready), range-bounds m r .setup) in
@@ -173,16 +175,24 @@ two-ways going = go (eqb going cw) refl (eqb going ccw) refl
     go false t false u e = absurd (false≢true e)
 
 pub started-sound :
-    (paused : Bool) (m : Motor) (c : Course) → soundMotor m ≡ true → judgeStart m c ≡ Done → wellAimed m c ≡ true → soundMotor (started paused m c) ≡ true
+    (full paused : Bool) (m : Motor) (c : Course) → soundMotor m ≡ true → judgeStart full m c ≡ Done → wellAimed m c ≡ true → soundMotor (started paused m c) ≡ true
 unfolding started judgeStart aimRight
-started-sound paused m Stay s h a = s
-started-sound paused m Beyond s h a = s
-started-sound paused m (To p) s h a =
+started-sound full paused m Stay s h a = s
+started-sound full paused m Beyond s h a = s
+started-sound full paused m (To p) s h a =
     let t = towards-ahead m p (not-true _ (and-r (isPosition p) _ a)) in
-    launched-sound paused m (towards m p) 1 p (sound-parts m s .range) h (t .0) (t .1) (omega arith) (and-l _ _ a) (le-leb 1 _ (t .2))
-started-sound paused m (Along going) s h a =
+    launched-sound full paused m (towards m p) 1 p (sound-parts m s .range) h (t .0) (t .1) (omega arith) (and-l _ _ a) (le-leb 1 _ (t .2))
+started-sound full paused m (Along going) s h a =
     let t = two-ways going a in
-    launched-sound paused m going 0 origin (sound-parts m s .range) h (t .0) (t .1) (omega arith) refl refl
+    launched-sound full paused m going 0 origin (sound-parts m s .range) h (t .0) (t .1) (omega arith) refl refl
+
+-- A start is taken on a full card only where it moves nothing; and what is taken on a full card is taken on one that is not.
+pub starts-spare : (full paused : Bool) (m : Motor) (c : Course) → judgeStart full m c ≡ Done → busy m ≡ false → busy (started paused m c) ≡ true → full ≡ false
+unfolding started judgeStart
+starts-spare full paused m Stay h n y = absurd (false≢true (sym n ∙ y))
+starts-spare full paused m Beyond h n y = absurd (false≢true (sym n ∙ y))
+starts-spare full paused m (To p) h n y = nothing-hinders full m (towards m p) h .spare
+starts-spare full paused m (Along going) h n y = nothing-hinders full m going h .spare
 
 -- A release leaves a sound motor: a driving one keeps the rules by what is left of it.
 pub released-sound : (m : Motor) → soundMotor m ≡ true → soundMotor (released m) ≡ true

@@ -3,7 +3,7 @@ use mathlib.Core.Path.{_≡_, refl}
 use Prim.Native.Nat.{ℕ, _≤_}
 use native.Mathlib.Omega.{arith}
 use Rattle.drive.specs.declared.Verdict.{Verdict}
-use Rattle.drive.specs.declared.Verdict.the-variants.{Done, NoForm, Busy, OutOfRange, WrongSize, NotSound, LocalMode, Disabled, Unread, SwitchAhead, AtLimit, AtRangeEnd, NotDriving}
+use Rattle.drive.specs.declared.Verdict.the-variants.{Done, NoForm, Busy, OutOfRange, WrongSize, NotSound, LocalMode, Disabled, Unread, SwitchAhead, AtLimit, AtRangeEnd, NotDriving, Full}
 use Rattle.drive.specs.Numbers.{numberOf}
 
 -- what is known of a verdict's number: it is a byte, 0 is that of `Done` alone, and 02 §5: "4 is no longer given"
@@ -30,3 +30,4 @@ numbered SwitchAhead = another SwitchAhead _ (omega arith) (omega arith) (omega 
 numbered AtLimit = another AtLimit _ (omega arith) (omega arith) (omega arith)
 numbered AtRangeEnd = another AtRangeEnd _ (omega arith) (omega arith) (omega arith)
 numbered NotDriving = another NotDriving _ (omega arith) (omega arith) (omega arith)
+numbered Full = another Full _ (omega arith) (omega arith) (omega arith)

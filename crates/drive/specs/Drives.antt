@@ -8,7 +8,7 @@ use Rattle.record.specs.declared.Motor.{Motor}
 use Rattle.drive.specs.declared.Course.{Course}
 use Rattle.drive.specs.declared.Course.the-variants.{Stay, Beyond, To, Along}
 use Rattle.drive.specs.declared.Verdict.{Verdict}
-use Rattle.drive.specs.declared.Verdict.the-variants.{Done, OutOfRange, Disabled, Unread, SwitchAhead, AtLimit, AtRangeEnd, NotDriving}
+use Rattle.drive.specs.declared.Verdict.the-variants.{Done, OutOfRange, Disabled, Unread, SwitchAhead, AtLimit, AtRangeEnd, NotDriving, Full}
 use Rattle.record.specs.Record.{withWiring, withDrive, withSpeedInForce, letGo, standing}
 use Rattle.motor.specs.Switches.{unread, blocked, rangeEnd, room}
 use Rattle.motor.specs.Sound.{busy}
@@ -43,23 +43,25 @@ atRangeEnd m going = eqb (m .place) (rangeEnd going)
 -- what keeps a stopped motor from leaving in a direction: "A = 0; an active enabled switch ahead; no room". 02 §2: "a start on an unread
 -- channel is 4, after the target check". 02 §5: "in this order, 8 to 12 for starts only: .. 8 motor disabled, 9 contacts unread, 10
 -- enabled switch active ahead, 11 no room because of a digital limit, 12 no room because of the end of the range (where both, 12)": so
--- the end of the range is asked for before the room, which then only a limit can leave at none
-unfoldable pub hindrance : Motor → ℕ → Verdict
-hindrance m going =
+-- the end of the range is asked for before the room, which then only a limit can leave at none. 02 §7: "a fifth start is 14, after 13":
+-- last, where as many motors are busy as the card runs at most
+unfoldable pub hindrance : Bool → Motor → ℕ → Verdict
+hindrance full m going =
     cond (eqb (m .setup .a) 0) Disabled
     (cond (unread (m .wiring)) Unread
     (cond (blocked going m) SwitchAhead
     (cond (atRangeEnd m going) AtRangeEnd
     (cond (eqb (room going m) 0) AtLimit
-    Done))))
+    (cond full Full
+    Done)))))
 
 -- of a stopped motor: "target out of range (3, for REL and JOG ..), the other causes of 4", which 02 §5 numbers 8 to 12; ABS to the
 -- present position and REL 0 "meet no later check"
-unfoldable pub judgeStart : Motor → Course → Verdict
-judgeStart m Stay = Done
-judgeStart m Beyond = OutOfRange
-judgeStart m (To p) = hindrance m (towards m p)
-judgeStart m (Along going) = hindrance m going
+unfoldable pub judgeStart : Bool → Motor → Course → Verdict
+judgeStart full m Stay = Done
+judgeStart full m Beyond = OutOfRange
+judgeStart full m (To p) = hindrance full m (towards m p)
+judgeStart full m (Along going) = hindrance full m going
 
 -- what a course of one of document 01's starts is: none, beyond the range, to a position other than the present one, or CW or
 -- CCW

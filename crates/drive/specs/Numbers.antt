@@ -3,7 +3,7 @@ use Prim.Native.Nat.{ℕ}
 use mathlib.Core.Bool.{Bool, _&&_, _||_, cond}
 use lib.Dec.{eqb, leb}
 use Rattle.drive.specs.declared.Verdict.{Verdict}
-use Rattle.drive.specs.declared.Verdict.the-variants.{Done, NoForm, Busy, OutOfRange, WrongSize, NotSound, LocalMode, Disabled, Unread, SwitchAhead, AtLimit, AtRangeEnd, NotDriving}
+use Rattle.drive.specs.declared.Verdict.the-variants.{Done, NoForm, Busy, OutOfRange, WrongSize, NotSound, LocalMode, Disabled, Unread, SwitchAhead, AtLimit, AtRangeEnd, NotDriving, Full}
 
 -- the number for each verdict:
 -- 0 "done";
@@ -15,7 +15,8 @@ use Rattle.drive.specs.declared.Verdict.the-variants.{Done, NoForm, Busy
 -- 5 "table not 1,088 bytes, reply buffer under 32, pulse buffer not 64, channel over 15, contacts over 7";
 -- 6 "table not sound";
 -- 02 §5: "7 local mode, 8 motor disabled, 9 contacts unread, 10 enabled switch active ahead, 11 no room because of a digital limit, 12
--- no room because of the end of the range .., 13 SPC on a stopped motor"
+-- no room because of the end of the range .., 13 SPC on a stopped motor";
+-- 02 §7: "a fifth start is 14"
 unfoldable pub numberOf : Verdict → ℕ
 numberOf Done = 0
 numberOf NoForm = 1
@@ -30,13 +31,14 @@ numberOf SwitchAhead = 10
 numberOf AtLimit = 11
 numberOf AtRangeEnd = 12
 numberOf NotDriving = 13
+numberOf Full = 14
 
 -- "5 and 6 change nothing anywhere", and have no text
 abbrev pub isSilent : ℕ → Bool
 isSilent n = eqb n 5 || eqb n 6
 
 -- the numbers that a line is refused with, and that leave their flag: "Numbers 1 to 4", where 4 "reads as the split numbers" (02 §5), 7
--- to 13, and those that later requests add to them
+-- to 13, and those that later requests add to them, as 14 (02 §7)
 abbrev pub isRefusal : ℕ → Bool
 isRefusal n = (leb 1 n && leb n 3) || leb 7 n
 

@@ -51,6 +51,7 @@ pub enum Verdict {
     AtLimit,
     AtRangeEnd,
     NotDriving,
+    Full,
 }
 
 // The motor with other end flags and another drive.
@@ -93,9 +94,9 @@ fn direction_to(m: Motor, p: u32) -> u8
     if m.place < p { CW } else { CCW }
 }
 
-// What keeps a stopped motor from leaving in a direction, or that nothing does.
-fn hindrance_to(m: Motor, going: u8) -> Verdict
-    ensures { λ r. ⌜ r ≡ hindrance m going ⌝ }
+// What keeps a stopped motor from leaving in a direction, or that nothing does; whether the card is full comes last.
+fn hindrance_to(full: bool, m: Motor, going: u8) -> Verdict
+    ensures { λ r. ⌜ r ≡ hindrance full m going ⌝ }
 {
     if m.setup.a == 0 {
         return Verdict::Disabled;
@@ -112,18 +113,21 @@ fn hindrance_to(m: Motor, going: u8) -> Verdict
     if room_of(going, m) == 0 {
         return Verdict::AtLimit;
     }
+    if full {
+        return Verdict::Full;
+    }
     Verdict::Done
 }
 
-// How a start of a stopped motor is judged.
-pub fn judge_start(m: Motor, c: Course) -> Verdict
-    ensures { λ r. ⌜ r ≡ judgeStart m c ⌝ }
+// How a start of a stopped motor is judged, where as many motors are busy as may be or not.
+pub fn judge_start(full: bool, m: Motor, c: Course) -> Verdict
+    ensures { λ r. ⌜ r ≡ judgeStart full m c ⌝ }
 {
     match c {
         Course::Stay => Verdict::Done,
         Course::Beyond => Verdict::OutOfRange,
-        Course::To(p) => hindrance_to(m, direction_to(m, p)),
-        Course::Along(going) => hindrance_to(m, going),
+        Course::To(p) => hindrance_to(full, m, direction_to(m, p)),
+        Course::Along(going) => hindrance_to(full, m, going),
     }
 }
 

@@ -22,6 +22,7 @@ pub fn number_of(v: Verdict) -> u32
         Verdict::AtLimit => 11,
         Verdict::AtRangeEnd => 12,
         Verdict::NotDriving => 13,
+        Verdict::Full => 14,
     }
 }
 

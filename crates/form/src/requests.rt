@@ -23,6 +23,9 @@ pub const ASK_PAUSE: u64 = 0x50_41_55_53_45_3f;
 // BSY?.
 pub const ASK_BUSY: u64 = 0x42_53_59_3f;
 
+// STQ?.
+pub const ASK_FREE: u64 = 0x53_54_51_3f;
+
 pub const PAUSE_ON_ROW: u8 = 41;
 
 pub const PAUSE_OFF_ROW: u8 = 42;
@@ -31,8 +34,10 @@ pub const ASK_PAUSE_ROW: u8 = 43;
 
 pub const ASK_BUSY_ROW: u8 = 44;
 
+pub const ASK_FREE_ROW: u8 = 45;
+
 // So many rows there are: the number of none of them.
-pub const NO_ROW: u8 = 45;
+pub const NO_ROW: u8 = 46;
 
 // The first row of a word.
 pub fn request_row(word: u64) -> u8
@@ -42,6 +47,7 @@ pub fn request_row(word: u64) -> u8
         PAUSE => PAUSE_ON_ROW,
         ASK_PAUSE => ASK_PAUSE_ROW,
         ASK_BUSY => ASK_BUSY_ROW,
+        ASK_FREE => ASK_FREE_ROW,
         _ => NO_ROW,
     }
 }
@@ -56,6 +62,7 @@ pub fn request_tail(row: u8) -> Tail
         PAUSE_OFF_ROW => Tail::TurnOff,
         ASK_PAUSE_ROW => Tail::Alone,
         ASK_BUSY_ROW => Tail::Alone,
+        ASK_FREE_ROW => Tail::Alone,
         _ => Tail::NoLine,
     }
 }
@@ -70,6 +77,7 @@ pub fn request_order(row: u8, f: Fields) -> Parsed
         PAUSE_OFF_ROW => Parsed::Is(Order::ForHead(HeadOrder::Pause(0))),
         ASK_PAUSE_ROW => Parsed::Is(Order::AskHead(HeadQuestion::AskPause)),
         ASK_BUSY_ROW => Parsed::Is(Order::AskHead(HeadQuestion::AskBusy)),
+        ASK_FREE_ROW => Parsed::Is(Order::AskHead(HeadQuestion::AskFree)),
         _ => Parsed::Nothing,
     }
 }

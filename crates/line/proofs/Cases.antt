@@ -14,10 +14,10 @@ use Rattle.line.specs.declared.Setting.the-variants.{Preset, SetCwLimit,
 use Rattle.line.specs.declared.Question.the-variants.{AskPosition, AskCwLimit, AskCcwLimit, AskSelected, AskSpeed, AskSwitches, AskMotor, AskStatus}
 use Rattle.line.specs.declared.Order.the-variants.{Go, Stop, StopAll, ChangeSpeed, Set, Ask, AskHead, ForHead}
 use Rattle.line.specs.declared.HeadOrder.the-variants.{Mode, AllReply, ClearErrors, ClearError, Pause}
-use Rattle.line.specs.declared.HeadQuestion.the-variants.{AskAllReply, AskFlags, AskError, AskPause, AskBusy}
+use Rattle.line.specs.declared.HeadQuestion.the-variants.{AskAllReply, AskFlags, AskError, AskPause, AskBusy, AskFree}
 use Rattle.line.specs.declared.Parsed.{Parsed}
 use Rattle.line.specs.declared.Parsed.the-variants.{Is, Nothing}
-use Rattle.line.specs.Forms.{orderOf}
+use Rattle.line.specs.Forms.{orderOf, onCard}
 use Rattle.line.specs.Computing.{computing-line}
 
 -- a quoted line as an order
@@ -44,8 +44,8 @@ every-form :
     ≡ map (λ q. Is (Ask 0 q)) (AskPosition ∷ AskCwLimit ∷ AskCcwLimit ∷ AskSelected ∷ AskSpeed 2 ∷ AskSpeed 1 ∷ AskSpeed 0 ∷ AskSwitches ∷ AskMotor ∷ AskStatus ∷ []))
     × (map line ("LOC" ∷ "REM" ∷ "ALL_REP EN" ∷ "ALL_REP DS" ∷ "ALL_REP?" ∷ "ERRF?" ∷ "ERR?" ∷ "ERRC" ∷ "ERRC9" ∷ [])
     ≡ Is (ForHead (Mode 0)) ∷ Is (ForHead (Mode 1)) ∷ Is (ForHead (AllReply 1)) ∷ Is (ForHead (AllReply 0)) ∷ Is (AskHead AskAllReply) ∷ Is (AskHead AskFlags) ∷ Is (AskHead AskError) ∷ Is (ForHead ClearErrors) ∷ Is (ForHead (ClearError 9)) ∷ [])
-    × (map line ("PAUSE ON" ∷ "PAUSE OFF" ∷ "PAUSE?" ∷ "BSY?" ∷ [])
-    ≡ Is (ForHead (Pause 1)) ∷ Is (ForHead (Pause 0)) ∷ Is (AskHead AskPause) ∷ Is (AskHead AskBusy) ∷ [])
+    × (map line ("PAUSE ON" ∷ "PAUSE OFF" ∷ "PAUSE?" ∷ "BSY?" ∷ "STQ?" ∷ [])
+    ≡ Is (ForHead (Pause 1)) ∷ Is (ForHead (Pause 0)) ∷ Is (AskHead AskPause) ∷ Is (AskHead AskBusy) ∷ Is (AskHead AskFree) ∷ [])
 unfolding computing-line line plus minus
 every-form = (refl, refl, refl, refl, refl, refl, refl)
 
@@ -80,12 +80,13 @@ no-form :
 unfolding computing-line line
 no-form = refl
 
--- 02 §3: the lines of pause have one blank and nothing more; 02 §6: `BSY?` names no channel
+-- 02 §3: the lines of pause have one blank and nothing more; 02 §6: `BSY?` names no channel, nor does 02 §7's
+-- `STQ?`
 no-pause :
     map line
     ("PAUSE" ∷ "PAUSE " ∷ "PAUSEON" ∷ "PAUSE  ON" ∷ "PAUSE ?" ∷ "PAUSE? " ∷ "PAUSE?0" ∷ "PAUSE O" ∷ "PAUSE OF" ∷ "PAUSE ONN" ∷ "PAUSE OFFF" ∷ "PAUSE OFN"
-    ∷ "PAUSE OXF" ∷ "PAUSE ON " ∷ "PAUSE OFF " ∷ "PAUSE on" ∷ "PAUSE0 ON" ∷ "PAUSE EN" ∷ "ALL_REP ON" ∷ "PAUS ON" ∷ "BSY" ∷ "BSY?0" ∷ "BSY? " ∷ "BSY0?" ∷ "BUSY?" ∷ [])
-    ≡ replicate 25 Nothing
+    ∷ "PAUSE OXF" ∷ "PAUSE ON " ∷ "PAUSE OFF " ∷ "PAUSE on" ∷ "PAUSE0 ON" ∷ "PAUSE EN" ∷ "ALL_REP ON" ∷ "PAUS ON" ∷ "BSY" ∷ "BSY?0" ∷ "BSY? " ∷ "BSY0?" ∷ "BUSY?" ∷ "STQ" ∷ "STQ?0" ∷ "STQ0?" ∷ "STQ? " ∷ "stq?" ∷ [])
+    ≡ replicate 30 Nothing
 unfolding computing-line line
 no-pause = refl
 
@@ -96,3 +97,12 @@ long-lines :
     × (orderOf (replicate 81 65) ≡ Nothing)
 unfolding computing-line
 long-lines = (refl, refl, refl)
+
+-- 02 §7: `STQ?` has a form on the four-motor card alone, and every other line on both
+cards :
+    (map (λ card. onCard card (line "STQ?")) (0 ∷ 1 ∷ []) ≡ Nothing ∷ Is (AskHead AskFree) ∷ [])
+    × (map (λ card. onCard card (line "BSY?")) (0 ∷ 1 ∷ []) ≡ Is (AskHead AskBusy) ∷ Is (AskHead AskBusy) ∷ [])
+    × (map (λ card. onCard card (line "SCANP0")) (0 ∷ 1 ∷ []) ≡ Is (Go 0 (Scan cw)) ∷ Is (Go 0 (Scan cw)) ∷ [])
+    × (onCard 1 (line "STQ") ≡ Nothing)
+unfolding computing-line line
+cards = (refl, refl, refl, refl)

@@ -5,3 +5,4 @@ pub mod BareLaws
 pub mod Laws
 pub mod Cases
 pub mod OrderLaws
+pub mod CardLaws

@@ -2,7 +2,7 @@
 use Prim.Native.Nat.{ℕ}
 use Prim.Native.String as S
 use mathlib.Core.List.{List, [], _∷_, _++_}
-use mathlib.Core.Bool.{Bool, cond}
+use mathlib.Core.Bool.{Bool, true, cond}
 use lib.ListN.{length, take}
 use lib.Dec.{leb, eqb}
 use Rattle.text.specs.Text.{bytes, same}
@@ -17,7 +17,8 @@ use Rattle.line.specs.declared.Question.the-variants.{AskPosition, AskCw
 use Rattle.line.specs.declared.Order.{Order}
 use Rattle.line.specs.declared.Order.the-variants.{Go, Stop, StopAll, ChangeSpeed, Set, Ask, AskHead, ForHead}
 use Rattle.line.specs.declared.HeadOrder.the-variants.{Mode, AllReply, ClearErrors, ClearError, Pause}
-use Rattle.line.specs.declared.HeadQuestion.the-variants.{AskAllReply, AskFlags, AskError, AskPause, AskBusy}
+use Rattle.line.specs.declared.HeadQuestion.{HeadQuestion}
+use Rattle.line.specs.declared.HeadQuestion.the-variants.{AskAllReply, AskFlags, AskError, AskPause, AskBusy, AskFree}
 use Rattle.line.specs.declared.Parsed.{Parsed}
 use Rattle.line.specs.declared.Parsed.the-variants.{Is, Nothing}
 use Rattle.line.specs.declared.Field.{Field}
@@ -134,13 +135,15 @@ headRows =
     ∷ []
 
 -- The forms that the requests of document 02 add, in the order of the requests. A row is added at the end, so that no other row's
--- number shifts. 02 §3: "Add `PAUSE ON`, `PAUSE OFF` and `PAUSE?`"; 02 §6: "A read `BSY?`".
+-- number shifts. 02 §3: "Add `PAUSE ON`, `PAUSE OFF` and `PAUSE?`"; 02 §6: "A read `BSY?`"; 02
+-- §7: "`STQ?` (000, both modes)".
 abbrev pub requestRows : List Row
 requestRows =
     row "PAUSE " ON (λ f. ForHead (Pause 1))
     ∷ row "PAUSE " OFF (λ f. ForHead (Pause 0))
     ∷ row "PAUSE?" alone (λ f. AskHead AskPause)
     ∷ row "BSY?" alone (λ f. AskHead AskBusy)
+    ∷ row "STQ?" alone (λ f. AskHead AskFree)
     ∷ []
 
 -- a line is read whole: nothing follows the fields
@@ -180,3 +183,28 @@ firstForm (r ∷ rs) s = firstOf (asRow r s) (firstForm rs s)
 -- "0 to 80 bytes, without CR LF; longer is 1. Capitals only."
 unfoldable pub orderOf : List ℕ → Parsed
 orderOf s = cond (leb (length s) 80) (firstForm forms s) Nothing
+
+-- a card has a question of the head; 02 §7, of `STQ?`: "On the sixteen card it is 1"
+unfoldable pub asksOn : ℕ → HeadQuestion → Bool
+asksOn card AskAllReply = true
+asksOn card AskFlags = true
+asksOn card AskError = true
+asksOn card AskPause = true
+asksOn card AskBusy = true
+asksOn card AskFree = eqb card 1
+
+-- a card has the form of an order
+unfoldable pub hasForm : ℕ → Order → Bool
+hasForm card (Go x s) = true
+hasForm card (Stop x flags) = true
+hasForm card (StopAll flags) = true
+hasForm card (ChangeSpeed x v) = true
+hasForm card (Set x s) = true
+hasForm card (Ask x q) = true
+hasForm card (AskHead q) = asksOn card q
+hasForm card (ForHead o) = true
+
+-- what a line is on a card: a line whose form the card has not is nothing, as one that has none of the forms
+abbrev pub onCard : ℕ → Parsed → Parsed
+onCard card (Is o) = cond (hasForm card o) (Is o) Nothing
+onCard card Nothing = Nothing

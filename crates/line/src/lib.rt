@@ -1,6 +1,7 @@
 // A command line and the order that it is. An order carries what was written, in range or not: a value is judged later, in
 // its place among the refusals. The lines themselves are listed in specs/Forms.antt, row by row.
 
+pub mod cards;
 pub mod field_reading;
 
 // A number as it was written: its sign, and the value of its 1 to 10 digits.
@@ -157,6 +158,8 @@ pub enum HeadQuestion {
     AskPause,
     // BSY?
     AskBusy,
+    // STQ?
+    AskFree,
 }
 
 // What is to be changed in the head. Mode, all-reply and pause carry the byte that it is to hold: 0 local, 1 remote; 0 off, 1

@@ -11,7 +11,7 @@ use Rattle.motor.specs.Sound.{busy}
 use Rattle.drive.specs.declared.Course.{Course}
 use Rattle.drive.specs.declared.Course.the-variants.{Stay, Beyond, To, Along}
 use Rattle.drive.specs.declared.Verdict.{Verdict}
-use Rattle.drive.specs.declared.Verdict.the-variants.{Done, NoForm, Busy, OutOfRange, LocalMode, Disabled, Unread, SwitchAhead, AtLimit, AtRangeEnd, NotDriving}
+use Rattle.drive.specs.declared.Verdict.the-variants.{Done, NoForm, Busy, OutOfRange, LocalMode, Disabled, Unread, SwitchAhead, AtLimit, AtRangeEnd, NotDriving, Full}
 use Rattle.drive.specs.Numbers.{numberOf, isRefusal}
 use Rattle.drive.proofs.NumberLaws.{numbered}
 use Rattle.drive.specs.Drives.{atRangeEnd, hindrance, towards, judgeStart}
@@ -19,22 +19,22 @@ use Rattle.line.specs.declared.Order.{Order}
 use Rattle.line.specs.declared.Order.the-variants.{Go, Stop, StopAll, ChangeSpeed, Set, Ask, AskHead, ForHead}
 use Rattle.line.specs.declared.Parsed.{Parsed}
 use Rattle.line.specs.declared.Parsed.the-variants.{Is, Nothing}
-use Rattle.table.specs.Layout.{headOf, motorAt}
+use Rattle.table.specs.Layout.{headOf, full, motorAt}
 use Rattle.orders.specs.Values.{needsRemote, valueInRange}
 use Rattle.orders.specs.Settings.{courseOf}
-use Rattle.commands.specs.Judging.{meetsBusy, judgeMotor, judge}
+use Rattle.commands.specs.Judging.{judgeWhere, meetsBusy, judgeMotor, judge}
 use Rattle.obeying.specs.Taking.{refused, obeyed, taken}
 
 -- An order that is accepted has its value in range.
 pub judged-value : (t : List ℕ) (o : Order) → numberOf (judge t o) ≡ 0 → valueInRange o ≡ true
-unfolding judge numberOf
+unfolding judge judgeWhere numberOf
 judged-value t o e = local (needsRemote o && eqb (headOf t .mode) 0) e
   where
-    ranged : (b : Bool) → valueInRange o ≡ b → numberOf (cond (not b) OutOfRange (cond (meetsBusy t o) Busy (judgeMotor t o))) ≡ 0 → valueInRange o ≡ true
+    ranged : (b : Bool) → valueInRange o ≡ b → numberOf (cond (not b) OutOfRange (cond (meetsBusy t o) Busy (judgeMotor (full (headOf t)) t o))) ≡ 0 → valueInRange o ≡ true
     ranged true h e = h
     ranged false h e = absurd (omega (arith, e))
 
-    local : (b : Bool) → numberOf (cond b LocalMode (cond (not (valueInRange o)) OutOfRange (cond (meetsBusy t o) Busy (judgeMotor t o)))) ≡ 0
+    local : (b : Bool) → numberOf (cond b LocalMode (cond (not (valueInRange o)) OutOfRange (cond (meetsBusy t o) Busy (judgeMotor (full (headOf t)) t o)))) ≡ 0
         → valueInRange o ≡ true
     local true e = absurd (omega (arith, e))
     local false e = ranged (valueInRange o) refl e
@@ -48,46 +48,47 @@ pub either : (test : Verdict → Bool) (b : Bool) (v w : Verdict) → test v ≡
 either test true v w hv hw = hv
 either test false v w hv hw = hw
 
-hindrance-judged : (m : Motor) (going : ℕ) → judged (hindrance m going) ≡ true
+hindrance-judged : (full : Bool) (m : Motor) (going : ℕ) → judged (hindrance full m going) ≡ true
 unfolding hindrance numberOf
-hindrance-judged m going =
+hindrance-judged full m going =
     either judged (eqb (m .setup .a) 0) Disabled _ refl
     (either judged (unread (m .wiring)) Unread _ refl
     (either judged (blocked going m) SwitchAhead _ refl
     (either judged (atRangeEnd m going) AtRangeEnd _ refl
-    (either judged (eqb (room going m) 0) AtLimit Done refl refl))))
+    (either judged (eqb (room going m) 0) AtLimit _ refl
+    (either judged full Full Done refl refl)))))
 
-start-judged : (m : Motor) (c : Course) → judged (judgeStart m c) ≡ true
+start-judged : (full : Bool) (m : Motor) (c : Course) → judged (judgeStart full m c) ≡ true
 unfolding judgeStart numberOf
-start-judged m Stay = refl
-start-judged m Beyond = refl
-start-judged m (To p) = hindrance-judged m (towards m p)
-start-judged m (Along going) = hindrance-judged m going
+start-judged full m Stay = refl
+start-judged full m Beyond = refl
+start-judged full m (To p) = hindrance-judged full m (towards m p)
+start-judged full m (Along going) = hindrance-judged full m going
 
-motor-judged : (t : List ℕ) (o : Order) → judged (judgeMotor t o) ≡ true
+motor-judged : (full : Bool) (t : List ℕ) (o : Order) → judged (judgeMotor full t o) ≡ true
 unfolding judgeMotor numberOf
-motor-judged t (Go x s) = start-judged (motorAt t x) (courseOf (motorAt t x) s)
-motor-judged t (Stop x e) = refl
-motor-judged t (StopAll e) = refl
-motor-judged t (ChangeSpeed x v) = either judged (busy (motorAt t x)) Done NotDriving refl refl
-motor-judged t (Set x s) = refl
-motor-judged t (Ask x q) = refl
-motor-judged t (AskHead q) = refl
-motor-judged t (ForHead h) = refl
+motor-judged full t (Go x s) = start-judged full (motorAt t x) (courseOf (motorAt t x) s)
+motor-judged full t (Stop x e) = refl
+motor-judged full t (StopAll e) = refl
+motor-judged full t (ChangeSpeed x v) = either judged (busy (motorAt t x)) Done NotDriving refl refl
+motor-judged full t (Set x s) = refl
+motor-judged full t (Ask x q) = refl
+motor-judged full t (AskHead q) = refl
+motor-judged full t (ForHead h) = refl
 
 -- What an order is judged passes a test that local mode, a bad value and busy pass, and what lies in the motor.
 pub judge-passes : (test : Verdict → Bool) (t : List ℕ) (o : Order) → test LocalMode ≡ true → test OutOfRange ≡ true → test Busy ≡ true
-    → test (judgeMotor t o) ≡ true → test (judge t o) ≡ true
-unfolding judge
+    → test (judgeMotor (full (headOf t)) t o) ≡ true → test (judge t o) ≡ true
+unfolding judge judgeWhere
 judge-passes test t o local value busy motor =
     either test (needsRemote o && eqb (headOf t .mode) 0) LocalMode _ local
     (either test (not (valueInRange o)) OutOfRange _ value
-    (either test (meetsBusy t o) Busy (judgeMotor t o) busy motor))
+    (either test (meetsBusy t o) Busy (judgeMotor (full (headOf t)) t o) busy motor))
 
 -- Whatever judges an order, it is done or refused.
 pub judge-judged : (t : List ℕ) (o : Order) → judged (judge t o) ≡ true
 unfolding numberOf
-judge-judged t o = judge-passes judged t o refl refl refl (motor-judged t o)
+judge-judged t o = judge-passes judged t o refl refl refl (motor-judged (full (headOf t)) t o)
 
 -- So an order that is not done is refused.
 pub refused-judged : (t : List ℕ) (o : Order) → eqb (numberOf (judge t o)) 0 ≡ false → isRefusal (numberOf (judge t o)) ≡ true

@@ -12,6 +12,8 @@ use Rattle.drive.specs.Numbers.{numberOf}
 use Rattle.line.specs.declared.Order.{Order}
 use Rattle.line.specs.declared.Parsed.{Parsed}
 use Rattle.line.specs.declared.Parsed.the-variants.{Is, Nothing}
+use Rattle.line.specs.Forms.{orderOf, onCard}
+use Rattle.table.specs.Layout.{headOf}
 use Rattle.commands.specs.Judging.{judge}
 use Rattle.commands.specs.Changing.{changed, flagged}
 use Rattle.commands.specs.Answers.{told, answer}
@@ -39,6 +41,10 @@ refused t v reply =
 -- an order that is accepted: the answer is made on the table after it
 unfoldable pub obeyed : List ℕ → Order → List ℕ → CommandAfter
 obeyed t o reply = replied Done (changed t o) (answer (changed t o) o) reply
+
+-- what a line is on a table, whose card decides which lines have a form
+abbrev pub orderIn : List ℕ → List ℕ → Parsed
+orderIn t line = onCard (headOf t .card) (orderOf line)
 
 -- a line on a sound table: "1 .. the line has none of the forms above", then the order's verdict
 unfoldable pub taken : List ℕ → Parsed → List ℕ → CommandAfter

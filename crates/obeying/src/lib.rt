@@ -10,6 +10,7 @@ use line::HeadQuestion;
 use line::Order;
 use line::Parsed;
 use line::Question;
+use line::cards::has_form;
 use replies::write_echo;
 use replies::write_head_question;
 use replies::write_question;
@@ -23,8 +24,10 @@ ghost use Rattle.drive.specs.Numbers.{numberOf};
 ghost use Rattle.drive.specs.declared.Verdict.the-variants.{Done};
 ghost use Rattle.line.specs.declared.Order.the-variants.{Ask, AskHead};
 ghost use Rattle.line.specs.declared.Parsed.the-variants.{Is};
+ghost use Rattle.line.specs.Forms.{onCard};
 ghost use Rattle.line.specs.Made.{orderMade, parsedMade};
 ghost use Rattle.orders.specs.Values.{valueInRange};
+ghost use Rattle.table.specs.Layout.{headOf};
 ghost use Rattle.table.specs.Sound.{soundTable};
 ghost use Rattle.commands.specs.Changing.{changed};
 ghost use Rattle.commands.specs.Answers.{told};
@@ -104,13 +107,26 @@ fn take_order(t: &mut [u8], o: Order, reply: &mut [u8]) -> u32
     }
 }
 
+// Takes an order if the table's card has its form.
+fn take_form(t: &mut [u8], o: Order, reply: &mut [u8]) -> u32
+    requires { ⌜ (soundTable (now t) ≡ true) × (32 ≤ length (now reply)) × (orderMade o ≡ true) ⌝ }
+    ensures { λ r. ⌜ record { result = r; table = now (t .exit); reply = now (reply .exit) } ≡ taken (now (t .entry)) (onCard (headOf (now (t .entry)) .card) (Is o)) (now (reply .entry)) ⌝ }
+{
+    let h = read_head(t);
+    if has_form(h.card, o) {
+        take_order(t, o, reply)
+    } else {
+        refuse(t, Verdict::NoForm, reply)
+    }
+}
+
 // Takes what a line is: an order, or nothing.
 pub fn take_line(t: &mut [u8], p: Parsed, reply: &mut [u8]) -> u32
     requires { ⌜ (soundTable (now t) ≡ true) × (32 ≤ length (now reply)) × (parsedMade p ≡ true) ⌝ }
-    ensures { λ r. ⌜ record { result = r; table = now (t .exit); reply = now (reply .exit) } ≡ taken (now (t .entry)) p (now (reply .entry)) ⌝ }
+    ensures { λ r. ⌜ record { result = r; table = now (t .exit); reply = now (reply .exit) } ≡ taken (now (t .entry)) (onCard (headOf (now (t .entry)) .card) p) (now (reply .entry)) ⌝ }
 {
     match p {
-        Parsed::Is(o) => take_order(t, o, reply),
+        Parsed::Is(o) => take_form(t, o, reply),
         Parsed::Nothing => refuse(t, Verdict::NoForm, reply),
     }
 }

@@ -13,9 +13,9 @@ use Rattle.drive.specs.declared.Course.the-variants.{To, Along}
 use Rattle.drive.specs.declared.Verdict.the-variants.{Done, NoForm, Busy, OutOfRange, WrongSize, NotSound, LocalMode, Disabled, Unread, SwitchAhead, AtLimit, AtRangeEnd, NotDriving}
 use Rattle.drive.specs.Drives.{started, released, stopped, contacted}
 use Rattle.table.specs.declared.head.Head.{Head}
-use Rattle.table.specs.Layout.{withPause, withBusy}
+use Rattle.table.specs.Layout.{withMode, withPause, withBusy}
 use Rattle.line.specs.declared.Question.the-variants.{AskPosition, AskCwLimit, AskCcwLimit, AskSelected, AskSpeed, AskSwitches, AskMotor, AskStatus}
-use Rattle.line.specs.declared.HeadQuestion.the-variants.{AskAllReply, AskFlags, AskError, AskPause, AskBusy}
+use Rattle.line.specs.declared.HeadQuestion.the-variants.{AskAllReply, AskFlags, AskError, AskPause, AskBusy, AskFree}
 use Rattle.replies.specs.Replies.{textOf, echo, headText, questionText}
 use Rattle.replies.specs.Computing.{computing-replies}
 
@@ -35,10 +35,10 @@ silent = refl
 
 -- a head with all-reply and error flags
 abbrev heading : ℕ → ℕ → Head
-heading all flags = record { mode = 1; reply = all; errors = flags; pause = 0; busy = 0 }
+heading all flags = record { mode = 1; reply = all; errors = flags; pause = 0; busy = 0; card = 0 }
 
--- `ALL_REP?`, `ERRF?` in capitals, `PAUSE?`, and `BSY?`, of 02 §6: "four hex digits", channel F the 8 of the first and channel 0 the 1 of
--- the last
+-- `ALL_REP?`, `ERRF?` in capitals, `PAUSE?`; `BSY?`, of 02 §6: "four hex digits", channel F the 8 of the first and channel 0 the 1 of
+-- the last; and `STQ?`, of 02 §7: four less those that are busy
 about-head :
     (headText (heading 1 0) AskAllReply ≡ bytes "EN")
     × (headText (heading 0 0) AskAllReply ≡ bytes "DS")
@@ -46,8 +46,11 @@ about-head :
     × (map (λ n. headText (withPause (heading 1 15) n) AskPause) (0 ∷ 1 ∷ 2 ∷ []) ≡ bytes "OFF" ∷ bytes "ON" ∷ bytes "OFF" ∷ [])
     × (map (λ n. headText (withBusy (heading 1 15) n) AskBusy) (0 ∷ 9 ∷ 0x8009 ∷ 0x0400 ∷ 0xABCD ∷ 0xFFFF ∷ [])
     ≡ bytes "0000" ∷ bytes "0009" ∷ bytes "8009" ∷ bytes "0400" ∷ bytes "ABCD" ∷ bytes "FFFF" ∷ [])
+    × (map (λ n. headText (withBusy (heading 1 15) n) AskFree) (0 ∷ 0x8000 ∷ 0x8001 ∷ 0x400A ∷ 0x400B ∷ 0xFFFF ∷ [])
+    ≡ bytes "R4" ∷ bytes "R3" ∷ bytes "R2" ∷ bytes "R1" ∷ bytes "R0" ∷ bytes "R0" ∷ [])
+    × (headText (withMode (heading 0 0) 0) AskFree ≡ bytes "L4")
 unfolding computing-replies
-about-head = (refl, refl, refl, refl, refl)
+about-head = (refl, refl, refl, refl, refl, refl, refl)
 
 -- `ERR?` with each set of flags, 0 to 15: the lowest that is set has its text.
 errors :

@@ -22,9 +22,9 @@ use Rattle.table.specs.declared.head.Head.{Head}
 use Rattle.line.specs.declared.Question.{Question}
 use Rattle.line.specs.declared.Question.the-variants.{AskPosition, AskCwLimit, AskCcwLimit, AskSelected, AskSpeed, AskSwitches, AskMotor, AskStatus}
 use Rattle.line.specs.declared.HeadQuestion.{HeadQuestion}
-use Rattle.line.specs.declared.HeadQuestion.the-variants.{AskAllReply, AskFlags, AskError, AskPause, AskBusy}
+use Rattle.line.specs.declared.HeadQuestion.the-variants.{AskAllReply, AskFlags, AskError, AskPause, AskBusy, AskFree}
 use Rattle.status.proofs.StatusLaws.{position-within}
-use Rattle.replies.specs.Replies.{textOf, selectedText, switchesText, motorText, questionText, errorText, echo, allReplyText, pauseText, headText}
+use Rattle.replies.specs.Replies.{textOf, selectedText, switchesText, motorText, questionText, errorText, echo, allReplyText, pauseText, freeText, headText}
 use Rattle.status.specs.Status.{statusText}
 
 -- Nothing written leaves the buffer as it was.
@@ -64,12 +64,13 @@ error-within e =
     (choice-within (isSet 3 e) _ _ (omega arith) (omega arith))))
 
 pub head-within : (h : Head) (q : HeadQuestion) → length (headText h q) ≤ 17
-unfolding headText allReplyText pauseText bytes hexByte hexWord
+unfolding headText allReplyText pauseText freeText bytes hexByte hexWord
 head-within h AskAllReply = choice-within (eqb (h .reply) 1) _ _ (omega arith) (omega arith)
 head-within h AskFlags = omega arith
 head-within h AskError = error-within (h .errors)
 head-within h AskPause = choice-within (eqb (h .pause) 1) _ _ (omega arith) (omega arith)
 head-within h AskBusy = omega arith
+head-within h AskFree = omega arith
 
 status-within : (k x : ℕ) (m : Motor) → length (statusText k x m) ≤ 17
 unfolding statusText hexByte

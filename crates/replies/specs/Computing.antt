@@ -2,8 +2,8 @@
 -- shut. It says nothing itself.
 use Rattle.status.specs.Computing.{computing-status}
 use Rattle.drive.specs.Computing.{computing-drive}
-use Rattle.replies.specs.Replies.{textOf, selectedText, switchesText, motorText, questionText, errorText, echo, allReplyText, pauseText, headText}
+use Rattle.replies.specs.Replies.{textOf, selectedText, switchesText, motorText, questionText, errorText, echo, allReplyText, pauseText, freeText, headText}
 
 unfoldable pub computing-replies : Unit {0}
-unfolding computing-status computing-drive textOf selectedText switchesText motorText questionText errorText echo allReplyText pauseText headText
+unfolding computing-status computing-drive textOf selectedText switchesText motorText questionText errorText echo allReplyText pauseText freeText headText
 computing-replies = tt

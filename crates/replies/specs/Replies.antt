@@ -1,14 +1,14 @@
 -- Document 01, "Numbers handed back": what is answered.
-use Prim.Native.Nat.{ℕ}
+use Prim.Native.Nat.{ℕ, _-_}
 use mathlib.Core.List.{List, [], _∷_}
 use mathlib.Core.Bool.{cond}
 use lib.Dec.{eqb}
-use Rattle.digits.specs.Words.{bit, isSet}
+use Rattle.digits.specs.Words.{bit, isSet, bitsSet}
 use Rattle.digits.specs.Places.{cw}
 use Rattle.text.specs.Text.{bytes, digitByte, decimal, hexByte, hexWord}
 use Rattle.record.specs.declared.Setup.{Setup}
 use Rattle.record.specs.declared.Motor.{Motor}
-use Rattle.status.specs.Status.{positionText, statusText}
+use Rattle.status.specs.Status.{positionText, modeLetter, statusText}
 use Rattle.drive.specs.declared.Verdict.{Verdict}
 use Rattle.drive.specs.Numbers.{numberOf, isSilent}
 use Rattle.drive.specs.Drives.{speedNumbered}
@@ -17,7 +17,7 @@ use Rattle.table.specs.Layout.{paused}
 use Rattle.line.specs.declared.Question.{Question}
 use Rattle.line.specs.declared.Question.the-variants.{AskPosition, AskCwLimit, AskCcwLimit, AskSelected, AskSpeed, AskSwitches, AskMotor, AskStatus}
 use Rattle.line.specs.declared.HeadQuestion.{HeadQuestion}
-use Rattle.line.specs.declared.HeadQuestion.the-variants.{AskAllReply, AskFlags, AskError, AskPause, AskBusy}
+use Rattle.line.specs.declared.HeadQuestion.the-variants.{AskAllReply, AskFlags, AskError, AskPause, AskBusy, AskFree}
 
 -- "No. | Text": the text for each number; 5 and 6 have "none". 02 §5: "the text stays NG .., also for later command numbers": NG is the
 -- text of every number that is left over
@@ -81,6 +81,10 @@ allReplyText all = cond (eqb all 1) (bytes "EN") (bytes "DS")
 unfoldable pub pauseText : Head → List ℕ
 pauseText h = cond (paused h) (bytes "ON") (bytes "OFF")
 
+-- 02 §7: "`STQ?` (000, both modes) answers R or L and four less that number", "the number of set bits in the busy word"
+unfoldable pub freeText : Head → List ℕ
+freeText h = modeLetter (h .mode) ∷ digitByte (4 - bitsSet (h .busy)) ∷ []
+
 -- what is answered to a question about the head: "`ERRF?` two hex digits"; 02 §6: "`BSY?` .. answers four hex digits", those of the busy
 -- set as the head holds it
 unfoldable pub headText : Head → HeadQuestion → List ℕ
@@ -89,3 +93,4 @@ headText h AskFlags = hexByte (h .errors)
 headText h AskError = errorText (h .errors)
 headText h AskPause = pauseText h
 headText h AskBusy = hexWord (h .busy)
+headText h AskFree = freeText h

@@ -1,8 +1,10 @@
 // What is answered, written straight into the reply buffer that the caller lends. What stands in each answer is said in specs/.
 
+pub mod free;
 pub mod settings;
 pub mod texts;
 
+use crate::free::write_free;
 use crate::settings::write_selected;
 use crate::settings::write_setup;
 use crate::settings::write_switches;
@@ -56,6 +58,7 @@ pub fn write_head_question(out: &mut [u8], h: Head, q: HeadQuestion) -> usize
             write_hex_word(out, h.busy);
             4
         }
+        HeadQuestion::AskFree => write_free(out, h),
     }
 }
 

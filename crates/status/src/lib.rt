@@ -60,7 +60,8 @@ fn status_hh(m: Motor) -> u8
     }
 }
 
-fn mode_letter(k: u8) -> u8
+// The letter of a mode.
+pub fn mode_letter(k: u8) -> u8
     ensures { λ r. ⌜ r ≡ modeLetter k ⌝ }
 {
     if k == 0 { b'L' } else { b'R' }

@@ -1,6 +1,6 @@
 -- What the loops over the head and over the records have done after k turns. Assumes nothing.
 use mathlib.Core.Path.{_≡_, refl, sym, _∙_}
-use mathlib.Core.List.{List, _++_}
+use mathlib.Core.List.{List, [], _∷_, _++_}
 use mathlib.Core.Bool.{Bool, true, false, _&&_, not, cond, false≢true}
 use Prim.Native.Nat.{ℕ, zero, suc, _+_, _*_, _-_, _≤_, _<_}
 use native.Mathlib.Nat.{add-zero, add-suc}
@@ -21,7 +21,7 @@ use Rattle.record.proofs.RoundTrip.{record-length}
 use Rattle.motor.specs.Sound.{busy, soundUnder}
 use Rattle.motor.specs.Judged.{soundListed}
 use Rattle.motor.proofs.SoundLaws.{and-l, and-r, and-false, both-ways}
-use Rattle.table.specs.Layout.{tableSize, recordAt, records, motorAt, busySet, withRecord, freshTable}
+use Rattle.table.specs.Layout.{tableSize, headBytes, headRest, freshHead, recordAt, records, motorAt, busySet, withRecord, freshTable}
 use Rattle.table.proofs.SealLaws.{set-at}
 use Rattle.table.proofs.PieceLaws.{every-each, each-every, gather-length}
 
@@ -131,11 +131,15 @@ fresh-next t k e h =
     let n = fresh-size k in
     rw (add-one k, ← n) (put-after t (gather (λ c. recordOf freshMotor) k) (recordOf freshMotor) 64 (omega arith))
 
--- The head zeroed and all records fresh are a fresh table.
-pub fresh-all : (t : List ℕ) → length t ≡ tableSize → freshTo (put t 0 (replicate 64 0)) 16 ≡ freshTable
+-- The head zeroed with the card in it, and all records fresh, are the fresh table of the card.
+card-put : (t : List ℕ) (card : ℕ) → put (put t 0 (replicate 64 0)) 6 (card ∷ []) ≡ put t 0 (headBytes (freshHead card) ++ replicate headRest 0)
+unfolding put
+card-put t card = refl
+
+pub fresh-all : (t : List ℕ) (card : ℕ) → length t ≡ tableSize → freshTo (put (put t 0 (replicate 64 0)) 6 (card ∷ [])) 16 ≡ freshTable card
 unfolding freshTo freshTable
-fresh-all t e =
-    let x : List ℕ = replicate 64 0 in
+fresh-all t card e =
+    let x : List ℕ = headBytes (freshHead card) ++ replicate headRest 0 in
     let y = gather (λ c. recordOf freshMotor) 16 in
     let n = fresh-size 16 in
-    put-after t x y 0 (omega arith) ∙ put-whole t (x ++ y) (rw length-append (omega arith))
+    rw (card-put t card) (put-after t x y 0 (omega arith) ∙ put-whole t (x ++ y) (rw length-append (omega arith)))

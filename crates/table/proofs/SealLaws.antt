@@ -3,17 +3,19 @@
 use mathlib.Core.Path.{_≡_, refl, sym, ap, _∙_}
 use mathlib.Core.List.{List, [], _∷_}
 use mathlib.Core.Bool.{Bool, true, false}
+use mathlib.Core.Logic.{_⊎_, inl, inr}
 use Prim.Native.Nat.{ℕ, _+_, _*_, _/_, _%_, _≤_, _<_}
 use native.Mathlib.Omega.{arith}
 use lib.ListN.{length}
 use lib.Dec.{eqb, ltb}
 use borrow.Author.Tests.{ltb-true, ltb-false, eqb-true, eqb-false}
 use Rattle.digits.specs.Bytes.{AllBytes, part, put}
-use Rattle.digits.specs.Words.{word, wordBytes, isSet, marked, bitsOf}
+use Rattle.digits.specs.Words.{word, wordBytes, isSet, marked, bitsOf, howMany, bitsSet}
 use Rattle.digits.proofs.PartLaws.{part-length, part-bytes}
 use Rattle.digits.proofs.PutLaws.{put-length, put-over, put-swap}
 use Rattle.digits.proofs.WordLaws.{bytes-word, word-below}
 use Rattle.digits.proofs.SetLaws.{bits-below, bits-at, bits-same, marked-bits}
+use Rattle.digits.proofs.CountLaws.{bits-many}
 use Rattle.record.specs.Record.{motorOf}
 use Rattle.motor.specs.Sound.{busy}
 use Rattle.table.specs.declared.head.Head.{Head}
@@ -60,6 +62,11 @@ pub same-set : (t u : List ℕ) → ((c : ℕ) → c ≤ 15 → busy (motorAt u 
 unfolding busySet
 same-set t u same = bits-same (λ c. busy (motorAt t c)) (λ c. busy (motorAt u c)) 16 (λ c h. same c (omega arith))
 
+-- It has as many bits set as there are busy channels.
+pub set-many : (t : List ℕ) → bitsSet (busySet t) ≡ howMany (λ c. busy (motorAt t c)) 16
+unfolding busySet
+set-many t = bits-many (λ c. busy (motorAt t c)) 16
+
 -- The two bytes of a set are its number.
 pub set-word : (n : ℕ) → word (setBytes n) ≡ n
 unfolding word
@@ -71,6 +78,10 @@ word-set s e bytes =
     let below : word s < 65536 = word-below 2 s e bytes in
     let high : word s / 256 % 256 ≡ word s / 256 = omega arith in
     rw (high) at (bytes-word 2 s e bytes)
+
+-- bytes of the head beside the set: 0 to 3, or 6 to 63
+abbrev pub Beside : ℕ → ℕ → Type 0
+Beside i n = (i + n ≤ 4) ⊎ ((6 ≤ i) × (i + n ≤ 64))
 
 -- A set that is written into the head leaves every other byte.
 module _ (t : List ℕ) (n : ℕ) (whole : length t ≡ tableSize) where
@@ -86,7 +97,7 @@ module _ (t : List ℕ) (n : ℕ) (whole : length t ≡ tableSize) where
   pub set-head : headOf (put t 4 (setBytes n)) ≡ withBusy (headOf t) n
   unfolding headOf
   set-head =
-      rw (set-before 0 1 (omega arith), set-before 1 1 (omega arith), set-before 2 1 (omega arith), set-before 3 1 (omega arith), part-same t (setBytes n) 4 2 refl (omega arith), set-word n)
+      rw (set-before 0 1 (omega arith), set-before 1 1 (omega arith), set-before 2 1 (omega arith), set-before 3 1 (omega arith), set-after 6 1 (omega arith), part-same t (setBytes n) 4 2 refl (omega arith), set-word n)
 
   pub set-motor : (c : ℕ) → motorAt (put t 4 (setBytes n)) c ≡ motorAt t c
   unfolding motorAt
@@ -108,6 +119,10 @@ module _ (t : List ℕ) (whole : length t ≡ tableSize) where
   pub sealed-after : (i k : ℕ) → 6 ≤ i → part (sealed t) i k ≡ part t i k
   unfolding sealed
   sealed-after i k h = set-after t (busySet t) whole i k h
+
+  pub sealed-beside : (i k : ℕ) → Beside i k → part (sealed t) i k ≡ part t i k
+  sealed-beside i k (inl h) = sealed-before i k h
+  sealed-beside i k (inr h) = sealed-after i k (h .0)
 
   pub sealed-motor : (c : ℕ) → motorAt (sealed t) c ≡ motorAt t c
   unfolding sealed

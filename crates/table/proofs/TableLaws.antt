@@ -28,9 +28,9 @@ pub motor-length : (t : List ℕ) (c : ℕ) (m : Motor) → length t ≡ tableSi
 unfolding withMotor
 motor-length t c m e h = sealed-length (withRecord t c (recordOf m)) (placed-length t c (recordOf m) e h (record-length m))
 
-pub fresh-length : length freshTable ≡ tableSize
+pub fresh-length : (card : ℕ) → length (freshTable card) ≡ tableSize
 unfolding freshTable
-fresh-length = rw (length-append, gather-length (λ c. recordOf freshMotor) 64 16 (λ c. record-length freshMotor))
+fresh-length card = rw (length-append, length-append, gather-length (λ c. recordOf freshMotor) 64 16 (λ c. record-length freshMotor))
 
 -- the records of the first k motors changed by f
 unfoldable pub changed : (Motor → Motor) → ℕ → List ℕ → List ℕ

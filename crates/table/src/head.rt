@@ -1,23 +1,29 @@
-// The head of the table, its first 64 bytes, by value: the mode, all-reply, the error flags, pause and the busy set; the rest is zero.
+// The head of the table, its first 64 bytes, by value: the mode, all-reply, the error flags, pause, the busy set and the card; the rest is
+// zero.
 // Whoever changes one field reads the head, sets the field, and writes the head back.
 
+use digits::sets::count;
 use digits::words::byte_at;
 use digits::words::short_at;
 use digits::words::wide_at;
 ghost use mathlib.Core.Path.{_≡_};
 ghost use mathlib.Core.List.{[], _∷_};
+ghost use lib.Dec.{leb};
 ghost use lib.ListN.{length};
 ghost use Rattle.digits.specs.Bytes.{part, put, allZero};
-ghost use Rattle.table.specs.Layout.{tableSize, headUsed, headRest, headOf, setBytes, paused, withHead, withMode, withReply, withErrors, withPause};
+ghost use Rattle.digits.specs.Words.{bitsSet};
+ghost use Rattle.table.specs.Layout.{tableSize, headUsed, headRest, headOf, setBytes, paused, mostBusy, full, withHead, withMode, withReply, withErrors, withPause};
 ghost use Rattle.table.specs.Sound.{headInRange, soundHead};
 
-// The mode: 0 local, 1 remote. All-reply: 0 off, 1 on. The error flags: 0 to 15. Pause: 0 off, 1 on. The busy set: bit c for channel c.
+// The mode: 0 local, 1 remote. All-reply: 0 off, 1 on. The error flags: 0 to 15. Pause: 0 off, 1 on. The busy set: bit c for channel c. The
+// card: 0 sixteen motors, 1 four.
 pub struct Head {
     pub mode: u8,
     pub reply: u8,
     pub errors: u8,
     pub pause: u8,
     pub busy: u16,
+    pub card: u8,
 }
 
 // The head that a table holds.
@@ -31,6 +37,7 @@ pub fn read_head(t: &[u8]) -> Head
         errors: byte_at(t, 2),
         pause: byte_at(t, 3),
         busy: short_at(t, 4),
+        card: byte_at(t, 6),
     }
 }
 
@@ -54,6 +61,14 @@ fn write_settings(t: &mut [u8], h: Head)
     t[3] = h.pause;
 }
 
+// Writes the card alone.
+pub fn write_card(t: &mut [u8], card: u8)
+    requires { ⌜ length (now t) ≡ tableSize ⌝ }
+    ensures { λ _. ⌜ now (t .exit) ≡ put (now (t .entry)) 6 (card ∷ []) ⌝ }
+{
+    t[6] = card;
+}
+
 // Writes a head; every byte that it has no field for stays as it is.
 pub fn write_head(t: &mut [u8], h: Head)
     requires { ⌜ length (now t) ≡ tableSize ⌝ }
@@ -61,6 +76,7 @@ pub fn write_head(t: &mut [u8], h: Head)
 {
     write_settings(t, h);
     write_busy(t, h.busy);
+    write_card(t, h.card);
 }
 
 // Whether pause is on, so that what is started is held.
@@ -68,6 +84,20 @@ pub fn is_paused(h: Head) -> bool
     ensures { λ r. ⌜ r ≡ paused h ⌝ }
 {
     h.pause == 1
+}
+
+// The most motors that may be busy on a card.
+fn most_busy(card: u8) -> u32
+    ensures { λ r. ⌜ r ≡ mostBusy card ⌝ }
+{
+    if card == 1 { 4 } else { 16 }
+}
+
+// Whether as many motors are busy as the card lets, so that no start is taken.
+pub fn is_full(h: Head) -> bool
+    ensures { λ r. ⌜ r ≡ full h ⌝ }
+{
+    most_busy(h.card) <= count(h.busy)
 }
 
 // The head with one field set, and the others as they were.
@@ -103,14 +133,23 @@ pub fn with_pause(h: Head, k: u8) -> Head
     n
 }
 
+// Whether no more motors are busy than the card lets. Of sixteen bits no more than sixteen are set, so those of the sixteen-motor card are
+// not counted.
+fn is_few(card: u8, set: u16) -> bool
+    ensures { λ r. ⌜ r ≡ leb (bitsSet set) (mostBusy card) ⌝ }
+{
+    if card == 0 { true } else { count(set) <= most_busy(card) }
+}
+
 // Whether the fields of a head are in their ranges.
 fn head_in_range(h: Head) -> bool
     ensures { λ r. ⌜ r ≡ headInRange h ⌝ }
 {
-    (h.mode <= 1) & (h.reply <= 1) & (h.errors <= 15) & (h.pause <= 1)
+    let few = is_few(h.card, h.busy);
+    (h.mode <= 1) & (h.reply <= 1) & (h.errors <= 15) & (h.pause <= 1) & (h.card <= 1) & few
 }
 
-// Whether the bytes of the head that no field has, 6 to 63, are zero: words of eight bytes from 8 on, and the two before them.
+// Whether the bytes of the head that no field has, 7 to 63, are zero: words of eight bytes from 8 on, and the one before them.
 fn head_zero(t: &[u8]) -> bool
     requires { ⌜ length (now t) ≡ tableSize ⌝ }
     ensures { λ r. ⌜ r ≡ allZero (part (now (t .entry)) headUsed headRest) ⌝ }
@@ -123,7 +162,7 @@ fn head_zero(t: &[u8]) -> bool
             return false;
         }
     }
-    short_at(t, 6) == 0
+    byte_at(t, 7) == 0
 }
 
 // Whether a head is sound.

@@ -10,6 +10,7 @@ use head::is_paused;
 use head::read_head;
 use head::sound_head;
 use head::write_busy;
+use head::write_card;
 use motor::sound_record;
 use record::Limits;
 use record::Motor;
@@ -224,11 +225,12 @@ fn fresh_records(t: &mut [u8])
     }
 }
 
-// Writes a fresh table: every one of its bytes.
-pub fn make_fresh(t: &mut [u8])
+// Writes the fresh table of a card: every one of its bytes.
+pub fn make_fresh(t: &mut [u8], card: u8)
     requires { ⌜ length (now t) ≡ tableSize ⌝ }
-    ensures { λ _. ⌜ now (t .exit) ≡ freshTable ⌝ }
+    ensures { λ _. ⌜ now (t .exit) ≡ freshTable card ⌝ }
 {
     zero_front(t);
+    write_card(t, card);
     fresh_records(t);
 }

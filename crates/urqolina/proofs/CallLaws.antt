@@ -52,6 +52,9 @@ counts-all t p e = put-whole p (countsTo 16 t) (counts-length 16 t ∙ sym e)
 pub sizes-reply : (t reply : List ℕ) → (eqb (length t) tableSize && leb 32 (length reply)) ≡ true → 32 ≤ length reply
 sizes-reply t reply e = leb-true 32 (length reply) (and-r (eqb (length t) tableSize) (leb 32 (length reply)) e)
 
+pub sizes-card : (t : List ℕ) (card : ℕ) → (eqb (length t) tableSize && leb card 1) ≡ true → (length t ≡ tableSize) × (card ≤ 1)
+sizes-card t card e = (eqb-true (length t) tableSize (and-l (eqb (length t) tableSize) (leb card 1) e), leb-true card 1 (and-r (eqb (length t) tableSize) (leb card 1) e))
+
 pub sizes-pulses : (t pulses : List ℕ) → (eqb (length t) tableSize && eqb (length pulses) 64) ≡ true → length pulses ≡ 64
 sizes-pulses t pulses e = eqb-true (length pulses) 64 (and-r (eqb (length t) tableSize) (eqb (length pulses) 64) e)
 

@@ -9,9 +9,9 @@ use Rattle.urqolina.specs.Calls.{TableAfter, freshCall, commandCall, rea
 same-table : (a b : TableAfter) → a ≡ b → (a .result ≡ b .result) × (a .table ≡ b .table)
 same-table a b e = (ap (λ x. x .result) e, ap (λ x. x .table) e)
 
-pub fresh-one : (t : List ℕ) (r s : ℕ) (u v : List ℕ) → record { result = r; table = u } ≡ freshCall t → record { result = s; table = v } ≡ freshCall t
+pub fresh-one : (t : List ℕ) (card r s : ℕ) (u v : List ℕ) → record { result = r; table = u } ≡ freshCall t card → record { result = s; table = v } ≡ freshCall t card
     → (r ≡ s) × (u ≡ v)
-fresh-one t r s u v p q = same-table _ _ (p ∙ sym q)
+fresh-one t card r s u v p q = same-table _ _ (p ∙ sym q)
 
 pub reading-one : (t : List ℕ) (c n : ℕ) (r s : ℕ) (u v : List ℕ) → record { result = r; table = u } ≡ readingCall t c n
     → record { result = s; table = v } ≡ readingCall t c n → (r ≡ s) × (u ≡ v)

@@ -9,20 +9,20 @@ use Prim.Native.Nat.{ℕ, _%_}
 use lib.ListN.{length}
 use lib.Dec.{eqb, leb}
 use Rattle.drive.specs.Numbers.{numberOf, isRefusal}
-use Rattle.line.specs.Forms.{orderOf}
 use Rattle.table.specs.Layout.{tableSize, freshTable}
 use Rattle.table.specs.Sound.{soundTable}
+use Rattle.obeying.specs.Taking.{orderIn}
 use Rattle.obeying.proofs.NumberLaws.{taken-number}
 use Rattle.urqolina.specs.Calls.{freshCall, commandCall, readingCall, tickCall}
 
--- a fresh call makes the fresh table and gives 0, or gives 5 and leaves the bytes
-pub fresh-made : (t : List ℕ) → eqb (length t) tableSize ≡ true → freshCall t ≡ record { result = 0; table = freshTable }
+-- a fresh call makes the fresh table of its card and gives 0, or gives 5 and leaves the bytes
+pub fresh-made : (t : List ℕ) (card : ℕ) → (eqb (length t) tableSize && leb card 1) ≡ true → freshCall t card ≡ record { result = 0; table = freshTable card }
 unfolding freshCall numberOf
-fresh-made t e = rw e
+fresh-made t card e = rw e
 
-pub fresh-refused : (t : List ℕ) → eqb (length t) tableSize ≡ false → freshCall t ≡ record { result = 5; table = t }
+pub fresh-refused : (t : List ℕ) (card : ℕ) → (eqb (length t) tableSize && leb card 1) ≡ false → freshCall t card ≡ record { result = 5; table = t }
 unfolding freshCall numberOf
-fresh-refused t e = rw e
+fresh-refused t card e = rw e
 
 -- a command with a wrong size, and one on a table that is not sound
 pub command-size : (t line reply : List ℕ) → (eqb (length t) tableSize && leb 32 (length reply)) ≡ false
@@ -57,11 +57,11 @@ pub tick-unsound : (t pulses : List ℕ) → (eqb (length t) tableSize && eqb (l
 unfolding tickCall numberOf
 tick-unsound t pulses e u = rw (e, u)
 
-pub fresh-numbers : (t : List ℕ) → (freshCall t .result ≡ 0) ⊎ (freshCall t .result ≡ 5)
+pub fresh-numbers : (t : List ℕ) (card : ℕ) → (freshCall t card .result ≡ 0) ⊎ (freshCall t card .result ≡ 5)
 unfolding freshCall numberOf
-fresh-numbers t = go (eqb (length t) tableSize) refl
+fresh-numbers t card = go (eqb (length t) tableSize && leb card 1) refl
   where
-    go : (b : Bool) → eqb (length t) tableSize ≡ b → (freshCall t .result ≡ 0) ⊎ (freshCall t .result ≡ 5)
+    go : (b : Bool) → (eqb (length t) tableSize && leb card 1) ≡ b → (freshCall t card .result ≡ 0) ⊎ (freshCall t card .result ≡ 5)
     go true e = inl (rw e)
     go false e = inr (rw e)
 
@@ -80,4 +80,4 @@ tick-accepted t pulses e u = rw (e, u)
 pub command-accepted : (t line reply : List ℕ) → (eqb (length t) tableSize && leb 32 (length reply)) ≡ true → soundTable t ≡ true
     → let n = commandCall t line reply .result % 256 in (eqb n 0 || isRefusal n) ≡ true
 unfolding commandCall numberOf
-command-accepted t line reply e u = rw (e, u) (taken-number t (orderOf line) reply)
+command-accepted t line reply e u = rw (e, u) (taken-number t (orderIn t line) reply)

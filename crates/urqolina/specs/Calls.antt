@@ -12,10 +12,9 @@ use Rattle.drive.specs.Numbers.{numberOf}
 use Rattle.record.specs.Record.{motorOf}
 use Rattle.drive.specs.Drives.{switchRead}
 use Rattle.pulses.specs.Ticks.{tickMotor, tickCount}
-use Rattle.line.specs.Forms.{orderOf}
 use Rattle.table.specs.Layout.{tableSize, records, motorAt, withMotor, withMotors, freshTable}
 use Rattle.table.specs.Sound.{soundTable}
-use Rattle.obeying.specs.Taking.{accepted, CommandAfter, taken}
+use Rattle.obeying.specs.Taking.{accepted, CommandAfter, orderIn, taken}
 
 -- "Order: 5, 6, ..": the sizes first, then the table
 abbrev pub refusal : Bool → List ℕ → Verdict
@@ -26,11 +25,12 @@ pub record TableAfter : Type 0 where
   pub result : ℕ
   pub table : List ℕ
 
--- the fresh call: "fresh gives only 0 or 5"
-unfoldable pub freshCall : List ℕ → TableAfter
-freshCall t =
-    cond (eqb (length t) tableSize)
-    (record { result = numberOf Done; table = freshTable })
+-- the fresh call: "fresh gives only 0 or 5". 02 §7: the card is "set when the table is made fresh", and "a card number over 1 at fresh is
+-- 5"
+unfoldable pub freshCall : List ℕ → ℕ → TableAfter
+freshCall t card =
+    cond (eqb (length t) tableSize && leb card 1)
+    (record { result = numberOf Done; table = freshTable card })
     (record { result = numberOf WrongSize; table = t })
 
 -- the command call: "table not 1,088 bytes, reply buffer under 32" is 5; "5 and 6 change nothing anywhere"
@@ -38,7 +38,7 @@ unfoldable pub commandCall : List ℕ → List ℕ → List ℕ → CommandAfter
 commandCall t line reply =
     let v = refusal (eqb (length t) tableSize && leb 32 (length reply)) t in
     cond (accepted v)
-    (taken t (orderOf line) reply)
+    (taken t (orderIn t line) reply)
     (record { result = numberOf v; table = t; reply = reply })
 
 -- the reading call: "table not 1,088 bytes, .. channel over 15, contacts over 7" is 5

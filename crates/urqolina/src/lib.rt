@@ -35,13 +35,13 @@ const PULSES: usize = 64;
 
 const REPLY: usize = 32;
 
-// Makes a fresh table.
+// Makes the fresh table of a card, 0 of sixteen motors or 1 of four.
 #[no_mangle]
-pub extern "C" fn urqolina_fresh(table: &mut [u8]) -> u32
-    ensures { λ r. ⌜ record { result = r; table = now (table .exit) } ≡ freshCall (now (table .entry)) ⌝ }
+pub extern "C" fn urqolina_fresh(table: &mut [u8], card: u32) -> u32
+    ensures { λ r. ⌜ record { result = r; table = now (table .exit) } ≡ freshCall (now (table .entry)) card ⌝ }
 {
-    if table.len() == TABLE {
-        make_fresh(table);
+    if (table.len() == TABLE) & (card <= 1) {
+        make_fresh(table, card as u8);
         DONE
     } else {
         WRONG_SIZE

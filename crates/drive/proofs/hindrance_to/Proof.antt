@@ -46,8 +46,14 @@ returns-5 c =
 returns-6 : tie.Need-returns-6
 unfolding hindrance
 returns-6 c =
-    let some : c .before .room-of .result ≡ 0 → ⊥ = c .if5 .left in
-    rw (ne-eqb _ _ (c .before .before .before .before .before .before .before .before .before .if1 .left), ← c .before .before .before .before .before .before .before .before .is-unread .ensures, c .before .before .before .before .before .before .before .if2 .left, ← c .before .before .before .before .before .before .is-blocked .ensures, c .before .before .before .before .before .if3 .left, ← c .before .before .before .before .range-end .ensures, ne-eqb _ _ (c .before .before .if4 .left), ← c .before .room-of .ensures, ne-eqb _ _ some)
+    let some : c .before .before .room-of .result ≡ 0 → ⊥ = c .before .if5 .left in
+    rw (ne-eqb _ _ (c .before .before .before .before .before .before .before .before .before .before .if1 .left), ← c .before .before .before .before .before .before .before .before .before .is-unread .ensures, c .before .before .before .before .before .before .before .before .if2 .left, ← c .before .before .before .before .before .before .before .is-blocked .ensures, c .before .before .before .before .before .before .if3 .left, ← c .before .before .before .before .before .range-end .ensures, ne-eqb _ _ (c .before .before .before .if4 .left), ← c .before .before .room-of .ensures, ne-eqb _ _ some, c .if6 .taken)
+
+returns-7 : tie.Need-returns-7
+unfolding hindrance
+returns-7 c =
+    let some : c .before .before .room-of .result ≡ 0 → ⊥ = c .before .if5 .left in
+    rw (ne-eqb _ _ (c .before .before .before .before .before .before .before .before .before .before .if1 .left), ← c .before .before .before .before .before .before .before .before .before .is-unread .ensures, c .before .before .before .before .before .before .before .before .if2 .left, ← c .before .before .before .before .before .before .before .is-blocked .ensures, c .before .before .before .before .before .before .if3 .left, ← c .before .before .before .before .before .range-end .ensures, ne-eqb _ _ (c .before .before .before .if4 .left), ← c .before .before .room-of .ensures, ne-eqb _ _ some, c .if6 .left)
 
 pub hindrance-to-spec : {M : Type 1} → statement M
 hindrance-to-spec =
@@ -62,4 +68,5 @@ hindrance-to-spec =
     returns-4
     room-of-requires
     returns-5
-    returns-6)
+    returns-6
+    returns-7)

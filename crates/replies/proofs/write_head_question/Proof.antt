@@ -58,6 +58,12 @@ enum-told-5 c = search needs
 write-hex-word-requires : tie.Need-write-hex-word-requires
 write-hex-word-requires c κs = search needs
 
+enum-told-6 : tie.Need-enum-told-6
+enum-told-6 c = search needs
+
+write-free-requires : tie.Need-write-free-requires
+write-free-requires c κs = search needs
+
 same-length : tie.Need-same-length
 same-length c = search needs
 
@@ -103,6 +109,15 @@ returns-5 c =
     let s = c .before .before .before .before in
     short (within (s .before .before .before)) (rw (s .enum-told5 .given .1) (record { count = refl; buffer = c .before .before .write-hex-word .ensures }))
 
+same-length-6 : tie.Need-same-length-6
+same-length-6 c = search needs
+
+returns-6 : tie.Need-returns-6
+unfolding headText
+returns-6 c =
+    let s = c .before .before .before .before in
+    short (within (s .before .before .before)) (rw (s .enum-told6 .given .1) (c .before .before .write-free .ensures))
+
 pub write-head-question-spec : {M : Type 1} → statement M
 write-head-question-spec =
     tie.close
@@ -122,6 +137,8 @@ write-head-question-spec =
     write-either-requires-2
     enum-told-5
     write-hex-word-requires
+    enum-told-6
+    write-free-requires
     same-length
     returns
     same-length-2
@@ -131,4 +148,6 @@ write-head-question-spec =
     same-length-4
     returns-4
     same-length-5
-    returns-5)
+    returns-5
+    same-length-6
+    returns-6)

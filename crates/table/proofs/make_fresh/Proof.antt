@@ -7,6 +7,9 @@ use Rattle.table.proofs.make_fresh.Tie as tie
 zero-front-requires : tie.Need-zero-front-requires
 zero-front-requires c κs = search needs
 
+write-card-requires : tie.Need-write-card-requires
+write-card-requires c κs = search needs
+
 fresh-records-requires : tie.Need-fresh-records-requires
 fresh-records-requires c κs = search needs
 
@@ -16,9 +19,10 @@ same-length c = search needs
 returns : tie.Need-returns
 unfolding freshTo
 returns c =
-    let t = c .before .before .before .before .before .before .before .before .before .args .t .now in
-    rw (c .before .before .fresh-records .ensures, c .before .before .before .before .before .before .zero-front .ensures) (fresh-all t (search needs))
+    let w = c .before .before .before .before .before .before in
+    let a = w .before .before .before .before .before .before .before .args in
+    rw (c .before .before .fresh-records .ensures, w .write-card .ensures, w .before .before .before .before .zero-front .ensures) (fresh-all (a .t .now) (a .card) (search needs))
 
 pub make-fresh-spec : {M : Type 1} → statement M
 make-fresh-spec =
-    tie.close (tie.spec zero-front-requires fresh-records-requires same-length returns)
+    tie.close (tie.spec zero-front-requires write-card-requires fresh-records-requires same-length returns)

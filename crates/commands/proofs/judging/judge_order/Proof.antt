@@ -1,6 +1,6 @@
 -- `commands::judging::judge_order` meets its contract. Assumes nothing.
 use mathlib.Core.Path.{sym, _∙_}
-use Rattle.commands.specs.Judging.{judge}
+use Rattle.commands.specs.Judging.{judgeWhere, judge}
 use borrow.Author.Needs.{needs}
 use Rattle.commands.proofs.judging.judge_order.Statement.{statement}
 use Rattle.commands.proofs.judging.judge_order.Tie as tie
@@ -12,7 +12,7 @@ needs-remote-requires : tie.Need-needs-remote-requires
 needs-remote-requires c κs = search needs
 
 returns : tie.Need-returns
-unfolding judge
+unfolding judge judgeWhere
 returns c = rw (← c .before .before .needs-remote .ensures, ← c .before .before .before .read-head .ensures, c .if1 .taken)
 
 value-in-range-requires : tie.Need-value-in-range-requires
@@ -22,11 +22,11 @@ judge-channel-requires : tie.Need-judge-channel-requires
 judge-channel-requires c κs = (c .before .before .before .before .before .before .before .pre .0, c .before .before .before .before .before .before .before .pre .1, sym (c .before .value-in-range .ensures) ∙ c .if2 .taken)
 
 returns-2 : tie.Need-returns-2
-unfolding judge
-returns-2 c = rw (← c .before .before .before .before .before .needs-remote .ensures, ← c .before .before .before .before .before .before .read-head .ensures, c .before .before .before .if1 .left, ← c .before .before .value-in-range .ensures, c .before .if2 .taken, c .judge-channel .ensures)
+unfolding judge judgeWhere
+returns-2 c = rw (c .judge-channel .ensures, ← c .before .before .before .before .before .needs-remote .ensures, ← c .before .before .before .before .before .before .read-head .ensures, c .before .before .before .if1 .left, ← c .before .before .value-in-range .ensures, c .before .if2 .taken)
 
 returns-3 : tie.Need-returns-3
-unfolding judge
+unfolding judge judgeWhere
 returns-3 c = rw (← c .before .before .before .before .needs-remote .ensures, ← c .before .before .before .before .before .read-head .ensures, c .before .before .if1 .left, ← c .before .value-in-range .ensures, c .if2 .left)
 
 pub judge-order-spec : {M : Type 1} → statement M

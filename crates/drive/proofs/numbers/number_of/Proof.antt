@@ -43,6 +43,9 @@ enum-told-12 c = search needs
 enum-told-13 : tie.Need-enum-told-13
 enum-told-13 c = search needs
 
+enum-told-14 : tie.Need-enum-told-14
+enum-told-14 c = search needs
+
 returns : tie.Need-returns
 unfolding numberOf
 returns c = rw (c .enum-told .given .1)
@@ -95,6 +98,10 @@ returns-13 : tie.Need-returns-13
 unfolding numberOf
 returns-13 c = rw (c .enum-told13 .given .1)
 
+returns-14 : tie.Need-returns-14
+unfolding numberOf
+returns-14 c = rw (c .enum-told14 .given .1)
+
 pub number-of-spec : {M : Type 1} → statement M
 number-of-spec =
     tie.close
@@ -112,6 +119,7 @@ number-of-spec =
     enum-told-11
     enum-told-12
     enum-told-13
+    enum-told-14
     returns
     returns-2
     returns-3
@@ -124,4 +132,5 @@ number-of-spec =
     returns-10
     returns-11
     returns-12
-    returns-13)
+    returns-13
+    returns-14)

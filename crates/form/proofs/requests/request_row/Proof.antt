@@ -15,4 +15,5 @@ request-row-spec =
     (λ c. rw (c .match .keys1) (record { row = refl; most = omega arith }))
     (λ c. rw (c .match .keys2) (record { row = refl; most = omega arith }))
     (λ c. rw (c .match .keys3) (record { row = refl; most = omega arith }))
+    (λ c. rw (c .match .keys4) (record { row = refl; most = omega arith }))
     (λ c. rw (none-with requestRows _ refl (c .match .rest)) (record { row = refl; most = omega arith })))

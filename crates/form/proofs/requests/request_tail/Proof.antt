@@ -14,4 +14,5 @@ request-tail-spec =
     (λ c. rw (c .match .keys2))
     (λ c. rw (c .match .keys3))
     (λ c. rw (c .match .keys4))
+    (λ c. rw (c .match .keys5))
     (λ c. rw (rows-passed 41 _ (omega arith) (c .match .rest))))

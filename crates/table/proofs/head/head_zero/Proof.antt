@@ -49,8 +49,8 @@ returns c =
     let k = l .loop .k in
     sym (zero-fails t headUsed k (omega arith) (omega arith) (omega arith) (rw (← c .before .wide-at .ensures) (ne-eqb _ _ (c .if1 .left))))
 
-short-at-requires : tie.Need-short-at-requires Inv-loop μ-loop
-short-at-requires c κs = search needs
+byte-at-requires : tie.Need-byte-at-requires Inv-loop μ-loop
+byte-at-requires c κs = search needs
 
 returns-2 : tie.Need-returns-2 Inv-loop μ-loop
 unfolding zeroTo
@@ -58,7 +58,7 @@ returns-2 c =
     let l = c .before .before in
     let t = l .before .before .args .t .now in
     let e : l .loop .k ≡ 8 = omega arith in
-    rw (zero-part t 6 2 56, c .short-at .ensures, rw (e) at (l .loop .inv .2)) (sym (and-true (eqb (word (part t 6 2)) 0)))
+    rw (zero-part t 7 1 56, c .byte-at .ensures, rw (e) at (l .loop .inv .2)) (sym (and-true (eqb (word (part t 7 1)) 0)))
 
 pub head-zero-spec : {M : Type 1} → statement M
 head-zero-spec =
@@ -73,5 +73,5 @@ head-zero-spec =
     loop-less
     loop-again
     returns
-    short-at-requires
+    byte-at-requires
     returns-2)

@@ -1,0 +1,18 @@
+-- `table::head::is_full` meets its contract. Assumes nothing.
+use borrow.Author.Needs.{needs}
+use Rattle.table.specs.Layout.{full}
+use Rattle.table.proofs.head.is_full.Statement.{statement}
+use Rattle.table.proofs.head.is_full.Tie as tie
+
+most-busy-requires : tie.Need-most-busy-requires
+most-busy-requires c κs = search needs
+
+count-requires : tie.Need-count-requires
+count-requires c κs = search needs
+
+returns : tie.Need-returns
+unfolding full
+returns c = rw (c .count .ensures, c .before .most-busy .ensures)
+
+pub is-full-spec : {M : Type 1} → statement M
+is-full-spec = tie.close (tie.spec most-busy-requires count-requires returns)
