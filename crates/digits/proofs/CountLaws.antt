@@ -2,9 +2,10 @@
 -- of it. Assumes nothing.
 use mathlib.Core.Path.{_≡_, refl}
 use mathlib.Core.Bool.{Bool, true, false, cond, false≢true}
-use Prim.Native.Nat.{ℕ, zero, suc, _+_, _*_, _/_, _%_, _^_, _≤_, _<_}
+use Prim.Native.Nat.{ℕ, zero, suc, _+_, _*_, _-_, _/_, _%_, _^_, _≤_, _<_}
 use native.Mathlib.Nat.{pow-suc}
 use native.Mathlib.Omega.{arith}
+use lib.Pow.{pow-pos}
 use lib.Count.{ones, onesIn, ones-step}
 use Rattle.digits.specs.Words.{bitsOf, howMany}
 
@@ -19,6 +20,23 @@ pub in-most : (k n : ℕ) → onesIn k n ≤ k
 unfolding onesIn
 in-most zero n = omega arith
 in-most (suc k) n = omega (arith, in-most k (n / 2))
+
+-- They are all set in the number that has no other.
+pub in-all : (k n : ℕ) → n < 2 ^ k → k ≤ onesIn k n → n ≡ 2 ^ k - 1
+unfolding onesIn
+in-all zero n b h = omega arith
+in-all (suc k) n b h =
+    let below : n / 2 < 2 ^ k = omega (arith, rw (pow-suc) at b) in
+    let half : n / 2 ≡ 2 ^ k - 1 = in-all k (n / 2) below (omega (arith, in-most k (n / 2))) in
+    rw (pow-suc) (omega (arith, in-most k (n / 2)))
+
+pub all-in : (k n : ℕ) → n ≡ 2 ^ k - 1 → onesIn k n ≡ k
+unfolding onesIn
+all-in zero n e = refl
+all-in (suc k) n e =
+    let whole : n ≡ 2 ^ k * 2 - 1 = rw (pow-suc) at e in
+    let half : n / 2 ≡ 2 ^ k - 1 = omega (arith, pow-pos k) in
+    rw (all-in k (n / 2) half) (omega (arith, pow-pos k))
 
 -- The number of a set has as many bits set as the set has channels.
 pub bits-many : (f : ℕ → Bool) (k : ℕ) → onesIn k (bitsOf f k) ≡ howMany f k

@@ -186,13 +186,34 @@ started-sound full paused m (Along going) s h a =
     let t = two-ways going a in
     launched-sound full paused m going 0 origin (sound-parts m s .range) h (t .0) (t .1) (omega arith) refl refl
 
--- A start is taken on a full card only where it moves nothing; and what is taken on a full card is taken on one that is not.
+-- A start is taken on a full card only where it moves nothing.
 pub starts-spare : (full paused : Bool) (m : Motor) (c : Course) → judgeStart full m c ≡ Done → busy m ≡ false → busy (started paused m c) ≡ true → full ≡ false
 unfolding started judgeStart
 starts-spare full paused m Stay h n y = absurd (false≢true (sym n ∙ y))
 starts-spare full paused m Beyond h n y = absurd (false≢true (sym n ∙ y))
 starts-spare full paused m (To p) h n y = nothing-hinders full m (towards m p) h .spare
 starts-spare full paused m (Along going) h n y = nothing-hinders full m going h .spare
+
+-- And one that would set its motor off is refused on a full card for that alone.
+hindered-full : (m : Motor) (going : ℕ) → hindrance false m going ≡ Done → hindrance true m going ≡ Full
+unfolding hindrance
+hindered-full m going h = go (eqb (m .setup .a) 0) (unread (m .wiring)) (blocked going m) (atRangeEnd m going) (eqb (room going m) 0) h
+  where
+    go : (a u b e r : Bool) → cond a Disabled (cond u Unread (cond b SwitchAhead (cond e AtRangeEnd (cond r AtLimit Done)))) ≡ Done
+        → cond a Disabled (cond u Unread (cond b SwitchAhead (cond e AtRangeEnd (cond r AtLimit Full)))) ≡ Full
+    go true u b e r h = cc
+    go false true b e r h = cc
+    go false false true e r h = cc
+    go false false false true r h = cc
+    go false false false false true h = cc
+    go false false false false false h = refl
+
+pub full-refuses : (paused : Bool) (m : Motor) (c : Course) → judgeStart false m c ≡ Done → busy m ≡ false → busy (started paused m c) ≡ true → judgeStart true m c ≡ Full
+unfolding started judgeStart
+full-refuses paused m Stay h n y = absurd (false≢true (sym n ∙ y))
+full-refuses paused m Beyond h n y = absurd (false≢true (sym n ∙ y))
+full-refuses paused m (To p) h n y = hindered-full m (towards m p) h
+full-refuses paused m (Along going) h n y = hindered-full m going h
 
 -- A release leaves a sound motor: a driving one keeps the rules by what is left of it.
 pub released-sound : (m : Motor) → soundMotor m ≡ true → soundMotor (released m) ≡ true

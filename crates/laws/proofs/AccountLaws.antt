@@ -38,8 +38,8 @@ pub data Leaves (q : Bool) (m : Motor) (going : ℕ) (c : Course) : Motor → Ty
   leaves : (kind target : ℕ) → 1 ≤ going → courseIn (launched q m going kind target) ≡ c → Leaves q m going c (launched q m going kind target)
 
 -- A start to another place that is accepted leaves towards it; one to the place where the motor stands changes nothing.
-module _ (q : Bool) (m : Motor) (going p n : ℕ) where
-  to-leaves : eqb (moved going p n) (m .place) ≡ false → judgeStart m (courseTo m going p n) ≡ Done
+module _ (full q : Bool) (m : Motor) (going p n : ℕ) where
+  to-leaves : eqb (moved going p n) (m .place) ≡ false → judgeStart full m (courseTo m going p n) ≡ Done
       → Leaves q m (towards m (moved going p n)) (courseTo m going p n) (started q m (courseTo m going p n))
   unfolding courseTo judgeStart started courseIn
   to-leaves e = rw e (go (isPosition (moved going p n)))
@@ -47,7 +47,7 @@ module _ (q : Bool) (m : Motor) (going p n : ℕ) where
       to : ℕ
       to = moved going p n
 
-      go : (b : Bool) → judgeStart m (cond b (To to) Beyond) ≡ Done
+      go : (b : Bool) → judgeStart full m (cond b (To to) Beyond) ≡ Done
           → Leaves q m (towards m to) (cond b (To to) Beyond) (started q m (cond b (To to) Beyond))
       go true h = leaves 1 to (towards-ahead m to e .0) refl
       go false h =
@@ -67,7 +67,7 @@ two-ways going h = go (eqb going cw) refl h
     go false e h = inr (eqb-true going ccw h)
 
 -- A place some pulses away is another place, and lies in the direction that leads there.
-module _ (q : Bool) (m : Motor) (going n : ℕ) (s : soundMotor m ≡ true) (h : 1 ≤ n) (d : direction going ≡ true) where
+module _ (full q : Bool) (m : Motor) (going n : ℕ) (s : soundMotor m ≡ true) (h : 1 ≤ n) (d : direction going ≡ true) where
   away : eqb (moved going (m .place) n) (m .place) ≡ false
   away = go (eqb going cw)
     where
@@ -83,9 +83,9 @@ module _ (q : Bool) (m : Motor) (going n : ℕ) (s : soundMotor m ≡ true) (h :
       go (inl e) = rw (e, lt-ltb (m .place) (m .place + n) (omega arith))
       go (inr e) = rw (e, le-ltb (m .place) (m .place - n) (omega arith))
 
-  by-leaves : judgeStart m (courseTo m going (m .place) n) ≡ Done
+  by-leaves : judgeStart full m (courseTo m going (m .place) n) ≡ Done
       → Leaves q m going (courseTo m going (m .place) n) (started q m (courseTo m going (m .place) n))
-  by-leaves j = rw there at (to-leaves q m going (m .place) n away j)
+  by-leaves j = rw there at (to-leaves full q m going (m .place) n away j)
 
 -- A sign is a direction.
 sign-direction : (w : Written) → direction (directionOf w) ≡ true
@@ -96,22 +96,22 @@ sign-direction w = go (w .minus)
     go false = refl
 
 -- An accepted start that sets off leaves in the direction that it asks for.
-pub off-leaves : (q : Bool) (m : Motor) (s : Start) → soundMotor m ≡ true → judgeStart m (courseOf m s) ≡ Done → startMade s ≡ true
+pub off-leaves : (full q : Bool) (m : Motor) (s : Start) → soundMotor m ≡ true → judgeStart full m (courseOf m s) ≡ Done → startMade s ≡ true
     → setsOff m s ≡ true → Leaves q m (wayOf m s) (courseOf m s) (started q m (courseOf m s))
 unfolding setsOff wayOf
-off-leaves q m (Abs w) s h d e = to-leaves q m (directionOf w) origin (w .digits) (not-true _ e) h
-off-leaves q m (Rel w) s h d e =
-    by-leaves q m (directionOf w) (w .digits) s (omega (arith, eqb-false (w .digits) 0 (not-true _ e))) (sign-direction w) h
-off-leaves q m (Scan going) s h d e =
+off-leaves full q m (Abs w) s h d e = to-leaves full q m (directionOf w) origin (w .digits) (not-true _ e) h
+off-leaves full q m (Rel w) s h d e =
+    by-leaves full q m (directionOf w) (w .digits) s (omega (arith, eqb-false (w .digits) 0 (not-true _ e))) (sign-direction w) h
+off-leaves full q m (Scan going) s h d e =
     unfold started in unfold courseIn in leaves 0 origin (⊎-elim (λ q. omega (arith, q)) (λ q. omega (arith, q)) (two-ways going d)) refl
-off-leaves q m (Jog going) s h d e = by-leaves q m going 1 s (omega arith) d h
+off-leaves full q m (Jog going) s h d e = by-leaves full q m going 1 s (omega arith) d h
 
 -- One that does not changes nothing.
 pub off-stays : (q : Bool) (m : Motor) (s : Start) → setsOff m s ≡ false → started q m (courseOf m s) ≡ m
 unfolding setsOff
-off-stays q m (Abs w) e = to-stays q m (directionOf w) origin (w .digits) (not-false _ e)
+off-stays q m (Abs w) e = to-stays false q m (directionOf w) origin (w .digits) (not-false _ e)
 off-stays q m (Rel w) e =
-    to-stays q m (directionOf w) (m .place) (w .digits)
+    to-stays false q m (directionOf w) (m .place) (w .digits)
     (rw (eqb-true (w .digits) 0 (not-false _ e), moved-none (directionOf w) (m .place)) (eq-eqb (m .place) (m .place) refl))
 off-stays q m (Scan going) e = absurd (false≢true (sym e))
 off-stays q m (Jog going) e = absurd (false≢true (sym e))
@@ -154,10 +154,10 @@ same-drive m n a e b =
       most = b .most;
     }
 
-start-balanced : (m : Motor) (s : Start) (n : ℕ) (a : Account) → soundMotor m ≡ true → judgeStart m (courseOf m s) ≡ Done → startMade s ≡ true
+start-balanced : (full : Bool) (m : Motor) (s : Start) (n : ℕ) (a : Account) → soundMotor m ≡ true → judgeStart full m (courseOf m s) ≡ Done → startMade s ≡ true
     → Balanced m a → let l = started (a .paused) m (courseOf m s) in Balanced l (closed l (booked m n a (starts s)))
 unfolding booked
-start-balanced m s n a o h w b = go (setsOff m s) refl
+start-balanced full m s n a o h w b = go (setsOff m s) refl
   where
     l : Motor
     l = started (a .paused) m (courseOf m s)
@@ -180,7 +180,7 @@ start-balanced m s n a o h w b = go (setsOff m s) refl
         }
 
     go : (t : Bool) → setsOff m s ≡ t → Balanced l (closed l (cond t new a))
-    go true e = launch (off-leaves (a .paused) m s o h w e)
+    go true e = launch (off-leaves full (a .paused) m s o h w e)
     go false e = rw (off-stays (a .paused) m s e) (same-drive m m a refl b)
 
 stop-balanced : (m : Motor) (flags : ℕ) (a : Account) → Balanced m a → Balanced (stopped flags m) (closed (stopped flags m) a)
@@ -287,7 +287,7 @@ tick-balanced m n a p b =
 pub performed-balanced : (q : Bool) (m : Motor) (d : Deed) (n : ℕ) (a : Account) → soundMotor m ≡ true → Fits m d → (d ≡ ticks → n ≡ tickMotor m .pulses)
     → a .paused ≡ q → Balanced m a → Balanced (performed q m d) (closed (performed q m d) (booked m n a d))
 unfolding performed booked
-performed-balanced q m (starts s) n a o (fits-start _ still h w r) p on b = rw (← on) (start-balanced m s n a o h r b)
+performed-balanced q m (starts s) n a o (fits-start full _ still h w r) p on b = rw (← on) (start-balanced full m s n a o h r b)
 performed-balanced q m (stops flags) n a o f p on b = stop-balanced m flags a b
 performed-balanced q m (speeds v) n a o (fits-speed _ d h) p on b = speed-balanced m v a d b
 performed-balanced q m (sets s) n a o f p on b = same-drive m (withSetting m s) a (set-drive m s) b

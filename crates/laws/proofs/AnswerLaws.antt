@@ -13,21 +13,21 @@ use Rattle.line.specs.declared.Order.{Order}
 use Rattle.line.specs.declared.Order.the-variants.{Go, Stop, StopAll, ChangeSpeed, Set, Ask, AskHead, ForHead}
 use Rattle.line.specs.declared.Parsed.{Parsed}
 use Rattle.line.specs.declared.Parsed.the-variants.{Is}
-use Rattle.line.specs.Forms.{orderOf}
+use Rattle.line.specs.Forms.{hasForm}
 use Rattle.orders.specs.Values.{needsRemote, valueInRange}
 use Rattle.replies.specs.Replies.{echo, questionText, headText}
 use Rattle.table.specs.Layout.{headOf, motorAt}
 use Rattle.table.specs.Sound.{soundTable}
-use Rattle.commands.specs.Judging.{meetsBusy, judgeMotor, judge}
+use Rattle.commands.specs.Judging.{meetsBusy, judgeMotor, judgeWhere, judge}
 use Rattle.commands.specs.Changing.{changed}
 use Rattle.commands.specs.Answers.{told, answer}
-use Rattle.obeying.specs.Taking.{CommandAfter, refused, obeyed, taken}
+use Rattle.obeying.specs.Taking.{CommandAfter, orderIn, refused, obeyed, taken}
 use Rattle.urqolina.specs.Calls.{commandCall}
 use Rattle.laws.specs.Sequences.{urqolina, after}
 use Rattle.laws.specs.Deeds.{verdict}
 use Rattle.laws.specs.ReadBack.{isSome}
 use Rattle.laws.specs.Numbers.{asks, Replies}
-use Rattle.laws.proofs.CallWays.{taken-ways}
+use Rattle.laws.proofs.CallWays.{in-form, taken-ways}
 use Rattle.laws.proofs.ReadBackLaws.{right-size, asked}
 
 -- An order that is no read is answered OK, or nothing.
@@ -58,15 +58,15 @@ module _ (t line reply : List ℕ) (s : soundTable t ≡ true) (enough : 32 ≤ 
       go : (o : Order) → p ≡ Is o → numberOf (judge t o) ≡ 0 → asks o ≡ false → Told (obeyed t o reply) p
       go o q z e = rw (q, numbered (judge t o) .done z, unasked (changed t o) o e) (refl, refl)
 
-  told-call : isSome asks (orderOf line) ≡ false → Told (commandCall t line reply) (orderOf line)
+  told-call : isSome asks (orderIn t line) ≡ false → Told (commandCall t line reply) (orderIn t line)
   unfolding commandCall numberOf
-  told-call e = rw (right-size t s, le-leb 32 (length reply) enough, s) (told-so (orderOf line) e)
+  told-call e = rw (right-size t s, le-leb 32 (length reply) enough, s) (told-so (orderIn t line) e)
 
   pub replies : Replies urqolina t line reply s enough
-  unfolding judge needsRemote valueInRange meetsBusy judgeMotor changed answer after Told
+  unfolding judge judgeWhere hasForm needsRemote valueInRange meetsBusy judgeMotor changed answer after Told
   replies =
       record {
-        reads = λ x q e. asked t line reply (Ask x q) (questionText (headOf t .mode) x (motorAt t x) q) s enough e refl refl refl;
+        reads = λ x q e. asked t line reply (Ask x q) (questionText (headOf t .mode) x (motorAt t x) q) s enough (in-form t line (Ask x q) e refl) refl refl refl;
         headReads = λ q e. asked t line reply (AskHead q) (headText (headOf t) q) s enough e refl refl refl;
         others = told-call;
       }

@@ -14,12 +14,12 @@ use Rattle.pulses.specs.Ticks.{tickMotor}
 use Rattle.line.specs.declared.Order.{Order}
 use Rattle.line.specs.declared.Parsed.{Parsed}
 use Rattle.line.specs.declared.Parsed.the-variants.{Is, Nothing}
-use Rattle.line.specs.Forms.{orderOf}
-use Rattle.table.specs.Layout.{tableSize, motorAt, withMotor, withMotors}
+use Rattle.line.specs.Forms.{orderOf, hasForm, onCard}
+use Rattle.table.specs.Layout.{tableSize, headOf, motorAt, withMotor, withMotors}
 use Rattle.table.specs.Sound.{soundTable}
 use Rattle.table.proofs.TableLaws.{sound-length}
 use Rattle.commands.specs.Judging.{judge}
-use Rattle.obeying.specs.Taking.{accepted, CommandAfter, refused, obeyed, taken}
+use Rattle.obeying.specs.Taking.{accepted, CommandAfter, orderIn, refused, obeyed, taken}
 use Rattle.obeying.proofs.NumberLaws.{refused-judged, refused-number, obeyed-number}
 use Rattle.urqolina.specs.Calls.{refusal, TableAfter, TickAfter, commandCall, readingCall, counts, tickCall}
 use Rattle.urqolina.proofs.CallLaws.{sizes-channel}
@@ -39,17 +39,30 @@ taken-ways P t reply (Is o) bad good = go (accepted (judge t o)) refl
     go true e = good o refl (eqb-true (numberOf (judge t o)) 0 e)
     go false e = bad (refused-judged t o e)
 
+-- A line that is an order on a card is that order.
+pub on-card : (card : ℕ) (p : Parsed) (o : Order) → onCard card p ≡ Is o → p ≡ Is o
+on-card card Nothing o e = e
+on-card card (Is q) o e = go (hasForm card q) e
+  where
+    go : (b : Bool) → cond b (Is q) Nothing ≡ Is o → Is q ≡ Is o
+    go true e = e
+    go false e = let z : _≡_ {A = ℕ} 0 1 = cc in absurd (omega arith)
+
+-- And an order that a line is has a form, where the card has its form.
+pub in-form : (t line : List ℕ) (o : Order) → orderOf line ≡ Is o → hasForm (headOf t .card) o ≡ true → orderIn t line ≡ Is o
+in-form t line o e h = rw (e, h)
+
 -- The same of a command on a sound table, with the order that it carries out.
 pub sound-ways : (P : CommandAfter → Parsed → Type 0) (t line reply : List ℕ) → soundTable t ≡ true
     → P (record { result = 5; table = t; reply = reply }) Nothing
-    → (let v = verdict t (orderOf line) in isRefusal (numberOf v) ≡ true → P (refused t v reply) Nothing)
+    → (let v = verdict t (orderIn t line) in isRefusal (numberOf v) ≡ true → P (refused t v reply) Nothing)
     → ((o : Order) → orderOf line ≡ Is o → numberOf (judge t o) ≡ 0 → P (obeyed t o reply) (Is o))
     → P (commandCall t line reply) (orderTaken t (command line reply))
 unfolding commandCall orderTaken numberOf
 sound-ways P t line reply s small bad good = go (leb 32 (length reply)) refl
   where
-    go : (b : Bool) → leb 32 (length reply) ≡ b → P (commandCall t line reply) (cond b (orderPassed t (orderOf line)) Nothing)
-    go true e = rw (eq-eqb (length t) tableSize (sound-length t s), e, s) (taken-ways P t reply (orderOf line) bad good)
+    go : (b : Bool) → leb 32 (length reply) ≡ b → P (commandCall t line reply) (cond b (orderPassed t (orderIn t line)) Nothing)
+    go true e = rw (eq-eqb (length t) tableSize (sound-length t s), e, s) (taken-ways P t reply (orderIn t line) bad (λ o e z. good o (on-card (headOf t .card) (orderOf line) o e) z))
     go false e = rw (eq-eqb (length t) tableSize (sound-length t s), e) small
 
 -- a number that changes nothing, 5 or 6: it is no refusal's, and a byte
@@ -81,7 +94,7 @@ pub command-ways : (P : CommandAfter → Type 0) (t line reply : List ℕ)
 unfolding commandCall
 command-ways P t line reply bad flag good =
     ways P (eqb (length t) tableSize && leb 32 (length reply)) t (λ n. record { result = n; table = t; reply = reply }) _ bad
-    (λ e s. taken-ways (λ a p. P a) t reply (orderOf line) (flag s (verdict t (orderOf line))) (λ o q z. good s o q))
+    (λ e s. taken-ways (λ a p. P a) t reply (orderIn t line) (flag s (verdict t (orderIn t line))) (λ o q z. good s o (on-card (headOf t .card) (orderOf line) o q)))
 
 pub reading-ways : (P : TableAfter → Type 0) (t : List ℕ) (c n : ℕ)
     → ((k : ℕ) → Silent k → P (record { result = k; table = t }))
@@ -102,10 +115,10 @@ tick-ways P t p bad good =
 
 -- A line with the sizes right, on a sound table, gets the number of its verdict.
 pub line-number : (t line reply : List ℕ) → (eqb (length t) tableSize && leb 32 (length reply)) ≡ true → soundTable t ≡ true
-    → commandCall t line reply .result % 256 ≡ numberOf (verdict t (orderOf line))
+    → commandCall t line reply .result % 256 ≡ numberOf (verdict t (orderIn t line))
 unfolding commandCall numberOf
 line-number t line reply e s =
-    let p = orderOf line in
+    let p = orderIn t line in
     rw (e, s)
     (taken-ways (λ a q. a .result % 256 ≡ numberOf (verdict t p)) t reply p
     (λ h. refused-number t (verdict t p) reply)

@@ -7,16 +7,15 @@ use borrow.Author.Tests.{eq-eqb}
 use Rattle.drive.specs.Numbers.{numberOf}
 use Rattle.line.specs.declared.Order.{Order}
 use Rattle.line.specs.declared.Parsed.the-variants.{Is}
-use Rattle.line.specs.Forms.{orderOf}
 use Rattle.table.specs.Sound.{soundTable}
 use Rattle.commands.specs.Judging.{judge}
 use Rattle.commands.specs.Changing.{changed}
-use Rattle.obeying.specs.Taking.{obeyed, taken}
+use Rattle.obeying.specs.Taking.{orderIn, obeyed, taken}
 use Rattle.urqolina.specs.Calls.{commandCall, readingCall, tickCall}
 use Rattle.laws.specs.Sequences.{urqolina, command}
 use Rattle.laws.specs.Numbers.{sizesRight, Changes}
 
-orders : (t line reply : List ℕ) (o : Order) → sizesRight t (command line reply) ≡ true → soundTable t ≡ true → orderOf line ≡ Is o
+orders : (t line reply : List ℕ) (o : Order) → sizesRight t (command line reply) ≡ true → soundTable t ≡ true → orderIn t line ≡ Is o
     → numberOf (judge t o) ≡ 0 → commandCall t line reply .table ≡ changed t o
 unfolding commandCall taken obeyed numberOf
 orders t line reply o e s q z = rw (e, s, q, eq-eqb (numberOf (judge t o)) 0 z)

@@ -149,7 +149,7 @@ module _ (b : Beginning) (c : ℕ) (on : c ≤ 15) (ks : List Call) where
       rw (settled-so b c on ks .wiring) a
 
   unmoved : told urqolina c (fromFresh urqolina b) untold ks .read ≡ 0 → Unmoved (travel urqolina c (fromFresh urqolina b) noTravel ks)
-  unmoved = rw (made-fresh b) (λ z. run-unmoved c on freshTable ks untold noTravel fresh-sound (rw (fresh-motor c on) (unfold freshMotor in (refl, refl))) z (refl, refl))
+  unmoved = rw (made-fresh b) (λ z. run-unmoved c on (freshTable (b .card)) ks untold noTravel (fresh-sound (b .card) (b .known)) (rw (fresh-motor (b .card) c on) (unfold freshMotor in (refl, refl))) z (refl, refl))
 
   pub contacts-so : Contacts urqolina b c ks
   unfolding m

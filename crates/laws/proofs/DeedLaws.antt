@@ -63,7 +63,7 @@ pausedBy p D.rests = p
 
 -- what is known of a deed that was accepted, and of its motor
 pub data Fits (m : Motor) : Deed → Type 0 where
-  fits-start : (s : Start) → busy m ≡ false → judgeStart m (courseOf m s) ≡ Done → wellAimed m (courseOf m s) ≡ true → startMade s ≡ true → Fits m (starts s)
+  fits-start : (full : Bool) (s : Start) → busy m ≡ false → judgeStart full m (courseOf m s) ≡ Done → wellAimed m (courseOf m s) ≡ true → startMade s ≡ true → Fits m (starts s)
   fits-stop : (flags : ℕ) → endFlagsInRange flags ≡ true → Fits m (stops flags)
   fits-speed : (v : ℕ) → busy m ≡ true → isSpeed v ≡ true → Fits m (speeds v)
   fits-set : (s : Setting) → busy m ≡ false → settingInRange s ≡ true → settingMade s ≡ true → Fits m (sets s)
@@ -138,7 +138,7 @@ setting-sound m (SetMotor q) o d h k = setup-set-sound m d o (setupWritten q) h
 -- A deed that fits leaves a sound motor.
 pub performed-sound : (p : Bool) (m : Motor) (d : Deed) → soundMotor m ≡ true → Fits m d → soundMotor (performed p m d) ≡ true
 unfolding performed
-performed-sound p m (starts s) o (fits-start _ still judged aimed h) = started-sound p m (courseOf m s) o judged aimed
+performed-sound p m (starts s) o (fits-start full _ still judged aimed h) = started-sound full p m (courseOf m s) o judged aimed
 performed-sound p m (stops flags) o (fits-stop _ h) = stopped-sound flags m h o
 performed-sound p m (speeds v) o (fits-speed _ on h) = speed-changed-sound m v h on o
 performed-sound p m (sets s) o (fits-set _ still h k) = setting-sound m s o still h k

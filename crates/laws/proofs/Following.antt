@@ -3,7 +3,6 @@
 use mathlib.Core.Path.{_≡_, refl, sym, _∙_}
 use mathlib.Core.List.{List}
 use mathlib.Core.Bool.{Bool, true, false, _&&_, _||_, not, cond, false≢true, and-true, and-false}
-use mathlib.Core.Logic.{inl}
 use Prim.Native.Nat.{ℕ, _≤_}
 use native.Mathlib.Omega.{arith}
 use lib.ListN.{length}
@@ -17,7 +16,7 @@ use Rattle.drive.specs.Numbers.{numberOf}
 use Rattle.drive.proofs.NumberLaws.{numbered}
 use Rattle.drive.specs.Drives.{wellAimed, released}
 use Rattle.drive.proofs.Laws.{released-drive}
-use Rattle.drive.proofs.KeptSound.{course-aimed}
+use Rattle.drive.proofs.KeptSound.{course-aimed, starts-spare}
 use Rattle.line.specs.declared.Start.{Start}
 use Rattle.line.specs.declared.Start.the-variants.{Abs, Rel, Scan, Jog}
 use Rattle.line.specs.declared.Setting.{Setting}
@@ -25,29 +24,30 @@ use Rattle.line.specs.declared.HeadOrder.{HeadOrder}
 use Rattle.line.specs.declared.HeadOrder.the-variants.{Mode, AllReply, ClearErrors, ClearError, Pause}
 use Rattle.line.specs.declared.Order.{Order}
 use Rattle.line.specs.declared.Order.the-variants.{Go, Stop, StopAll, ChangeSpeed, Set, Ask, AskHead, ForHead}
-use Rattle.line.specs.Forms.{ssend, esend, orderOf}
+use Rattle.line.specs.Forms.{ssend, esend}
 use Rattle.line.specs.Made.{onBench, startMade, endFlag, settingMade, headMade, orderMade}
 use Rattle.line.proofs.OrderLaws.{line-made}
 use Rattle.orders.specs.Values.{needsRemote, valueInRange}
 use Rattle.orders.specs.Settings.{directionOf, courseOf}
 use Rattle.digits.specs.Places.{origin}
 use Rattle.digits.specs.Words.{withoutBit}
-use Rattle.table.specs.Layout.{tableSize, headOf, withHead, withMode, withReply, withErrors, withPause, motorAt, busySet, withMotor, withMotors}
+use Rattle.table.specs.Layout.{tableSize, headOf, full, withHead, withMode, withReply, withErrors, withPause, motorAt, busySet, withMotor, withMotors}
 use Rattle.table.specs.declared.head.Head.{Head}
 use Rattle.table.specs.Sound.{soundTable}
 use Rattle.table.proofs.SealLaws.{same-set}
 use Rattle.table.proofs.TableLaws.{sound-length, sound-motor-at, sound-held-at, sound-set}
 use Rattle.table.proofs.HeadLaws.{same-head, head-back, head-motor, head-sound, head-sound-on, sound-range}
-use Rattle.table.proofs.KeptLaws.{written-motor, head-before, motor-kept, motor-sound, motors-sound}
-use Rattle.commands.specs.Judging.{meetsBusy, judgeMotor, judge}
+use Rattle.table.proofs.KeptLaws.{written-motor, motor-beside, motor-kept, motor-sound, motors-sound}
+use Rattle.commands.specs.Judging.{meetsBusy, judgeMotor, judgeWhere, judge}
 use Rattle.commands.specs.Changing.{headChanged, motorsFreed, changed, flagged}
 use Rattle.commands.proofs.HeadOrderLaws.{flagged-range, changed-range}
 use Rattle.commands.proofs.ChannelLaws.{named, named-channel}
-use Rattle.obeying.specs.Taking.{refused, obeyed}
+use Rattle.obeying.specs.Taking.{orderIn, refused, obeyed}
 use Rattle.urqolina.specs.Calls.{commandCall, readingCall, tickCall}
 use Rattle.laws.specs.Sequences.{urqolina, Call, command, reading, tick, after}
 use Rattle.laws.specs.Deeds.{verdict, Deed, starts, stops, speeds, sets, reads, ticks, pauses, rests, deedIf, headDeed, deedOf, deedTaken, deed}
 use Rattle.laws.proofs.PartLaws.{motors-motor, motors-beside}
+use Rattle.laws.proofs.BusyLaws.{isStart, stays-idle}
 use Rattle.laws.proofs.CallWays.{sound-ways}
 use Rattle.laws.proofs.DeedLaws.{performed, pausedIn, pausedBy, Fits, fits-start, fits-stop, fits-speed, fits-set, fits-read, fits-tick, fits-pause, fits-rest, performed-sound, performed-right, performed-free}
 
@@ -56,18 +56,18 @@ pub record Passed (t : List ℕ) (o : Order) : Type 0 where
   pub remote : (needsRemote o && eqb (headOf t .mode) 0) ≡ false
   pub value : valueInRange o ≡ true
   pub free : meetsBusy t o ≡ false
-  pub motor : judgeMotor t o ≡ Done
+  pub motor : judgeMotor (full (headOf t)) t o ≡ Done
 
 pub passed : (t : List ℕ) (o : Order) → numberOf (judge t o) ≡ 0 → Passed t o
-unfolding judge numberOf
+unfolding judge judgeWhere numberOf
 passed t o = go (needsRemote o && eqb (headOf t .mode) 0) refl (valueInRange o) refl (meetsBusy t o) refl
   where
     go : (r : Bool) → (needsRemote o && eqb (headOf t .mode) 0) ≡ r → (v : Bool) → valueInRange o ≡ v → (b : Bool) → meetsBusy t o ≡ b
-        → numberOf (cond r LocalMode (cond (not v) OutOfRange (cond b Busy (judgeMotor t o)))) ≡ 0 → Passed t o
+        → numberOf (cond r LocalMode (cond (not v) OutOfRange (cond b Busy (judgeMotor (full (headOf t)) t o)))) ≡ 0 → Passed t o
     go true r v ev b eb e = absurd (omega (arith, e))
     go false r false v b eb e = absurd (omega (arith, e))
     go false r true v true b e = absurd (omega (arith, e))
-    go false r true v false b e = record { remote = r; value = v; free = b; motor = numbered (judgeMotor t o) .done e }
+    go false r true v false b e = record { remote = r; value = v; free = b; motor = numbered (judgeMotor (full (headOf t)) t o) .done e }
 
 -- A course of a start that a line makes is well aimed.
 start-aimed : (m : Motor) (s : Start) → startMade s ≡ true → wellAimed m (courseOf m s) ≡ true
@@ -96,7 +96,13 @@ module _ (t : List ℕ) (x : ℕ) where
   go-fits s h e =
       let p = passed t (Go x s) e in
       let made = and-r (onBench x) (startMade s) h in
-      fits-start s (p .free) (p .motor) (start-aimed (motorAt t x) s made) made
+      fits-start (full (headOf t)) s (p .free) (p .motor) (start-aimed (motorAt t x) s made) made
+
+  -- It sets the motor off only where the card is not full.
+  go-spare : (s : Start) → numberOf (judge t (Go x s)) ≡ 0 → busy (performed (pausedIn t) (motorAt t x) (starts s)) ≡ true → busy (motorAt t x) ≡ false
+      → full (headOf t) ≡ false
+  unfolding judgeMotor performed
+  go-spare s e y n = starts-spare (full (headOf t)) (pausedIn t) (motorAt t x) (courseOf (motorAt t x) s) (passed t (Go x s) e .motor) n y
 
   stop-fits : (flags : ℕ) → orderMade (Stop x flags) ≡ true → Fits (motorAt t x) (stops flags)
   unfolding orderMade
@@ -136,7 +142,7 @@ module _ (t : List ℕ) (x : ℕ) (d : Deed) (quiet : (p : Bool) → pausedBy p 
   sound-after = performed-sound (pausedIn t) (motorAt t x) d (sound-motor-at t x s h) f
 
   pause-same : headOf (withMotor t x n) .pause ≡ headOf t .pause
-  pause-same = rw (same-head t (withMotor t x n) (head-before t x n (sound-length t s) h))
+  pause-same = rw (same-head t (withMotor t x n) (motor-beside t x n (sound-length t s) h))
 
   writes : (c : ℕ) → Follows t (withMotor t x (performed (pausedIn t) (motorAt t x) d)) c (deedIf (eqb x c) d)
   unfolding n
@@ -148,24 +154,28 @@ module _ (t : List ℕ) (x : ℕ) (d : Deed) (quiet : (p : Bool) → pausedBy p 
           (record { motor = written-motor t x n (sound-length t s) h sound-after; fits = f; pause = rw (pause-same) (sym (quiet (pausedIn t))) })
       go false e = idle t (withMotor t x n) c (motor-kept t x n (sound-length t s) h c (λ q. eqb-false x c e (sym q))) pause-same
 
-  -- The table stays sound.
-  writes-sound : soundTable (withMotor t x (performed (pausedIn t) (motorAt t x) d)) ≡ true
+  -- The table stays sound, where the motor is set off only on a card that is not full: by a start that is judged so, and by no other deed.
+  writes-sound : (busy (performed (pausedIn t) (motorAt t x) d) ≡ true → busy (motorAt t x) ≡ false → full (headOf t) ≡ false)
+      → soundTable (withMotor t x (performed (pausedIn t) (motorAt t x) d)) ≡ true
   unfolding n
-  writes-sound = motor-sound t x n s h sound-after (performed-right (pausedIn t) (motorAt t x) d (sound-held-at t x s h))
+  writes-sound goes = motor-sound t x n s h sound-after (performed-right (pausedIn t) (motorAt t x) d (sound-held-at t x s h)) goes
 
--- Every motor changed for a deed that fits each of them and holds none.
-module _ (t : List ℕ) (d : Deed) (s : soundTable t ≡ true) (f : (m : Motor) → Fits m d) where
+  writes-still : isStart d ≡ false → soundTable (withMotor t x (performed (pausedIn t) (motorAt t x) d)) ≡ true
+  writes-still still = writes-sound (λ y e. absurd (false≢true (sym (stays-idle (pausedIn t) (motorAt t x) d still e) ∙ y)))
+
+-- Every motor changed for a deed that fits each of them, and holds none and sets none off.
+module _ (t : List ℕ) (d : Deed) (still : isStart d ≡ false) (s : soundTable t ≡ true) (f : (m : Motor) → Fits m d) where
   abbrev each : Motor → Motor
   each m = performed false m d
 
   each-pause : headOf (withMotors t each) .pause ≡ headOf t .pause
-  each-pause = rw (same-head t (withMotors t each) (λ i n h. motors-beside t each (sound-length t s) i n (inl h)))
+  each-pause = rw (same-head t (withMotors t each) (motors-beside t each (sound-length t s)))
 
   each-motor : (c : ℕ) → c ≤ 15 → motorAt (withMotors t each) c ≡ each (motorAt t c)
   each-motor c h = motors-motor t each c (sound-length t s) h (performed-sound false (motorAt t c) d (sound-motor-at t c s h) (f (motorAt t c)))
 
   each-sound : soundTable (withMotors t each) ≡ true
-  each-sound = motors-sound each (λ m o. performed-sound false m d o (f m)) (λ m e. performed-free m d e) t s
+  each-sound = motors-sound each (λ m o. performed-sound false m d o (f m)) (λ m e. performed-free m d e) (λ m e. stays-idle false m d still e) t s
 
 -- A head written that leaves pause leaves every motor.
 head-idle : (t : List ℕ) (h : Head) (c : ℕ) → soundTable t ≡ true → h .pause ≡ headOf t .pause → Follows t (withHead t h) c rests
@@ -181,7 +191,7 @@ module _ (t : List ℕ) (k : ℕ) (s : soundTable t ≡ true) where
   freed-sound = go (eqb k 0)
     where
       go : (b : Bool) → soundTable (cond b (withMotors t released) t) ≡ true
-      go true = each-sound t (pauses 0) s (λ m. fits-pause 0)
+      go true = each-sound t (pauses 0) refl s (λ m. fits-pause 0)
       go false = s
 
   freed-motor : (c : ℕ) → c ≤ 15 → motorAt freed c ≡ cond (eqb k 0) (released (motorAt t c)) (motorAt t c)
@@ -189,7 +199,7 @@ module _ (t : List ℕ) (k : ℕ) (s : soundTable t ≡ true) where
   freed-motor c h = go (eqb k 0)
     where
       go : (b : Bool) → motorAt (cond b (withMotors t released) t) c ≡ cond b (released (motorAt t c)) (motorAt t c)
-      go true = each-motor t (pauses 0) s (λ m. fits-pause 0) c h
+      go true = each-motor t (pauses 0) refl s (λ m. fits-pause 0) c h
       go false = refl
 
   pause-follows : (c : ℕ) → c ≤ 15 → Follows t (withHead freed (withPause (headOf t) k)) c (pauses k)
@@ -244,7 +254,7 @@ order-follows t (Go x s) c k h m e = writes t x (starts s) (λ p. refl) k (named
 order-follows t (Stop x flags) c k h m e = writes t x (stops flags) (λ p. refl) k (named-channel (Stop x flags) m) (stop-fits t x flags m) c
 order-follows t (StopAll flags) c k h m e =
     let f = fits-stop flags (flags-in-range flags m) in
-    record { motor = each-motor t (stops flags) k (λ n. fits-stop flags (flags-in-range flags m)) c h; fits = f; pause = rw (each-pause t (stops flags) k (λ n. fits-stop flags (flags-in-range flags m))) }
+    record { motor = each-motor t (stops flags) refl k (λ n. fits-stop flags (flags-in-range flags m)) c h; fits = f; pause = rw (each-pause t (stops flags) refl k (λ n. fits-stop flags (flags-in-range flags m))) }
 order-follows t (ChangeSpeed x v) c k h m e = writes t x (speeds v) (λ p. refl) k (named-channel (ChangeSpeed x v) m) (speed-fits t x v e) c
 order-follows t (Set x s) c k h m e = writes t x (sets s) (λ p. refl) k (named-channel (Set x s) m) (set-fits t x s m e) c
 order-follows t (Ask x q) c k h m e = idle t t c refl refl
@@ -263,11 +273,11 @@ flagged-idle t n c s = head-idle t _ c s refl
 -- An accepted order leaves a sound table.
 pub changed-sound : (t : List ℕ) (o : Order) → soundTable t ≡ true → orderMade o ≡ true → numberOf (judge t o) ≡ 0 → soundTable (changed t o) ≡ true
 unfolding changed orderMade performed named
-changed-sound t (Go x s) k m e = writes-sound t x (starts s) (λ p. refl) k (named-channel (Go x s) m) (go-fits t x s m e)
-changed-sound t (Stop x flags) k m e = writes-sound t x (stops flags) (λ p. refl) k (named-channel (Stop x flags) m) (stop-fits t x flags m)
-changed-sound t (StopAll flags) k m e = each-sound t (stops flags) k (λ n. fits-stop flags (flags-in-range flags m))
-changed-sound t (ChangeSpeed x v) k m e = writes-sound t x (speeds v) (λ p. refl) k (named-channel (ChangeSpeed x v) m) (speed-fits t x v e)
-changed-sound t (Set x s) k m e = writes-sound t x (sets s) (λ p. refl) k (named-channel (Set x s) m) (set-fits t x s m e)
+changed-sound t (Go x s) k m e = writes-sound t x (starts s) (λ p. refl) k (named-channel (Go x s) m) (go-fits t x s m e) (go-spare t x s e)
+changed-sound t (Stop x flags) k m e = writes-still t x (stops flags) (λ p. refl) k (named-channel (Stop x flags) m) (stop-fits t x flags m) refl
+changed-sound t (StopAll flags) k m e = each-sound t (stops flags) refl k (λ n. fits-stop flags (flags-in-range flags m))
+changed-sound t (ChangeSpeed x v) k m e = writes-still t x (speeds v) (λ p. refl) k (named-channel (ChangeSpeed x v) m) (speed-fits t x v e) refl
+changed-sound t (Set x s) k m e = writes-still t x (sets s) (λ p. refl) k (named-channel (Set x s) m) (set-fits t x s m e) refl
 changed-sound t (Ask x q) k m e = k
 changed-sound t (AskHead q) k m e = k
 changed-sound t (ForHead o) k m e = head-order-sound t o k m
@@ -289,7 +299,7 @@ command-next : (t line reply : List ℕ) → soundTable t ≡ true
 unfolding refused obeyed deed
 command-next t line reply s =
     sound-ways (λ a p. Next t (a .table) (λ c. deedTaken c p)) t line reply s (nothing-next t s)
-    (λ h. flagged-next t (numberOf (verdict t (orderOf line))) s)
+    (λ h. flagged-next t (numberOf (verdict t (orderIn t line))) s)
     (λ o e z.
     let made : orderMade o ≡ true = rw e at (line-made line) in
     record { sound = changed-sound t o s made z; follows = λ c h. order-follows t o c s h made z })
@@ -307,7 +317,7 @@ reading-next t x n s = go (leb x 15) refl (leb n 7) refl
         let h = leb-true x 15 a in
         let l = leb-true n 7 b in
         rw (eq-eqb (length t) tableSize (sound-length t s), a, b, s)
-        (record { sound = writes-sound t x (reads n) (λ p. refl) s h (fits-read n l); follows = λ c k. rw and-true (writes t x (reads n) (λ p. refl) s h (fits-read n l) c) })
+        (record { sound = writes-still t x (reads n) (λ p. refl) s h (fits-read n l) refl; follows = λ c k. rw and-true (writes t x (reads n) (λ p. refl) s h (fits-read n l) c) })
     go true a false b = rw (eq-eqb (length t) tableSize (sound-length t s), a, b) (record { sound = s; follows = λ c h. rw and-false (idle t t c refl refl) })
     go false a b eb = rw (eq-eqb (length t) tableSize (sound-length t s), a) (record { sound = s; follows = λ c h. rw (off c h a) (idle t t c refl refl) })
 
@@ -319,7 +329,7 @@ tick-next t p s = go (eqb (length p) 64) refl
     go : (b : Bool) → eqb (length p) 64 ≡ b → Next t (tickCall t p .table) (λ c. deedIf b ticks)
     go true e =
         rw (eq-eqb (length t) tableSize (sound-length t s), e, s)
-        (record { sound = each-sound t ticks s (λ m. fits-tick); follows = λ c h. record { motor = each-motor t ticks s (λ m. fits-tick) c h; fits = fits-tick; pause = rw (each-pause t ticks s (λ m. fits-tick)) } })
+        (record { sound = each-sound t ticks refl s (λ m. fits-tick); follows = λ c h. record { motor = each-motor t ticks refl s (λ m. fits-tick) c h; fits = fits-tick; pause = rw (each-pause t ticks refl s (λ m. fits-tick)) } })
     go false e = rw (eq-eqb (length t) tableSize (sound-length t s), e) (nothing-next t s)
 
 -- After any call on a sound table the table is sound, and each channel follows the call.

@@ -6,7 +6,7 @@ use Prim.Native.Nat.{ℕ, _%_}
 use native.Mathlib.Omega.{arith}
 use lib.ListN.{length}
 use lib.Dec.{eqb}
-use borrow.Author.Tests.{eq-eqb}
+use borrow.Author.Tests.{eq-eqb, le-leb}
 use Rattle.table.specs.Layout.{tableSize, freshTable}
 use Rattle.drive.specs.Numbers.{isRefusal}
 use Rattle.table.specs.Sound.{soundTable}
@@ -19,9 +19,9 @@ use Rattle.laws.specs.Pulses.{Lasting}
 use Rattle.laws.proofs.Following.{next}
 use Rattle.laws.proofs.NumberLaws.{numbers}
 
--- Every beginning makes the fresh table.
-pub made-fresh : (b : Beginning) → fromFresh urqolina b ≡ freshTable
-made-fresh b = ap (λ (a : TableAfter). a .table) (fresh-made (b .bytes) (eq-eqb (length (b .bytes)) tableSize (b .whole)))
+-- Every beginning makes the fresh table of its card.
+pub made-fresh : (b : Beginning) → fromFresh urqolina b ≡ freshTable (b .card)
+made-fresh b = ap (λ (a : TableAfter). a .table) (fresh-made (b .bytes) (b .card) (rw (eq-eqb (length (b .bytes)) tableSize (b .whole)) (le-leb (b .card) 1 (b .known))))
 
 -- A sound table stays sound over any sequence.
 pub run-sound : (t : List ℕ) (ks : List Call) → soundTable t ≡ true → soundTable (run urqolina t ks) ≡ true
@@ -30,7 +30,7 @@ run-sound t [] s = s
 run-sound t (k ∷ ks) s = run-sound (after urqolina t k .table) ks (next t k s .sound)
 
 pub ran-sound : (b : Beginning) (ks : List Call) → soundTable (ran urqolina b ks) ≡ true
-ran-sound b ks = rw (made-fresh b) (run-sound freshTable ks fresh-sound)
+ran-sound b ks = rw (made-fresh b) (run-sound (freshTable (b .card)) ks (fresh-sound (b .card) (b .known)))
 
 -- On a sound table no call gives 6: with the sizes right it gives 0, or the number of a refusal.
 taken-number : (t : List ℕ) (k : Call) → soundTable t ≡ true → sizesRight t k ≡ true

@@ -6,6 +6,7 @@ pub mod NumberLaws
 pub mod NeighbourLaws
 pub mod LastingLaws
 pub mod AccountLaws
+pub mod BusyLaws
 pub mod TravelLaws
 pub mod PulseLaws
 pub mod LastTickLaws

@@ -11,12 +11,10 @@ use Rattle.digits.specs.Bytes.{AllBytes, part, put}
 use Rattle.record.specs.declared.Motor.{Motor}
 use Rattle.record.specs.Record.{recordOf}
 use Rattle.motor.specs.Sound.{busy, moving}
-use Rattle.drive.specs.Drives.{lsend, released, endedWith, stopped, speedChanged, contacted, switchRead}
+use Rattle.drive.specs.Drives.{released, stopped}
 use Rattle.pulses.specs.Ticks.{tickMotor}
 use Rattle.pulses.proofs.Laws.{stopped-given-none}
-use Rattle.drive.proofs.Laws.{stopped-again, released-as, released-free, released-drive}
-use Rattle.motor.specs.Switches.{blocked}
-use Rattle.motor.proofs.MovingLaws.{moving-busy}
+use Rattle.drive.proofs.Laws.{stopped-again, released-as, released-free}
 use Rattle.line.specs.declared.Start.{Start}
 use Rattle.line.specs.declared.HeadOrder.{HeadOrder}
 use Rattle.line.specs.declared.HeadOrder.the-variants.{Mode, AllReply, ClearErrors, ClearError, Pause}
@@ -32,7 +30,8 @@ use Rattle.table.specs.Layout.{headOf, withHead, recordAt, motorAt, withMotor, 
 use Rattle.table.specs.Sound.{soundTable}
 use Rattle.record.proofs.ProgressLaws.{way-written}
 use Rattle.table.proofs.TableLaws.{sound-length, sound-record-at, sound-set-at}
-use Rattle.table.proofs.KeptLaws.{written-record, record-kept, read-back}
+use Rattle.table.proofs.SealLaws.{Beside}
+use Rattle.table.proofs.KeptLaws.{written-record, motor-beside, record-kept, read-back}
 use Rattle.commands.specs.Changing.{headChanged, motorsFreed, changed, flagged}
 use Rattle.commands.proofs.HeadOrderLaws.{freed-length}
 use Rattle.commands.proofs.ChannelLaws.{named, named-channel}
@@ -43,14 +42,14 @@ use Rattle.laws.specs.Deeds.{Deed, starts, stops, speeds, sets, reads, t
 use Rattle.laws.specs.Ledger.{setsOff}
 use Rattle.laws.specs.Neighbours.{ofHead, listed, HeadLeft, Neighbours}
 use Rattle.laws.specs.Numbers.{isCommand, sizesRight}
-use Rattle.laws.proofs.PartLaws.{Beside, motor-beside, motors-beside, motors-record}
-use Rattle.laws.proofs.DeedLaws.{performed, pausedIn, set-drive}
-use Rattle.laws.proofs.AccountLaws.{off-stays}
+use Rattle.laws.proofs.PartLaws.{motors-beside, motors-record}
+use Rattle.laws.proofs.DeedLaws.{pausedIn}
+use Rattle.laws.proofs.BusyLaws.{busy-before}
 use Rattle.laws.proofs.Following.{next}
 use Rattle.laws.proofs.NumberLaws.{numbers}
 use Rattle.laws.proofs.CallWays.{silent-other, command-ways, reading-ways, tick-ways}
 use Rattle.obeying.proofs.NumberLaws.{refused-number}
-use Rattle.table.proofs.HeadLaws.{head-back, head-record}
+use Rattle.table.proofs.HeadLaws.{same-head, head-back, head-record}
 
 -- A sound record that is read and written back is the same bytes.
 written-back : (t : List ℕ) (d : ℕ) → soundTable t ≡ true → AllBytes t → d ≤ 15 → recordOf (motorAt t d) ≡ recordAt t d
@@ -262,6 +261,41 @@ head-set t line reply o e q =
     command-ways (λ a. headOf (a .table) .busy ≡ headOf t .busy) t line reply (λ n i. refl)
     (λ s v h. rw (head-back t _ (sound-length t s))) (λ s p f. rw f at (same s))
 
+-- No call writes the card: an order of the head leaves it, as a refusal does, and all else leaves the head beside the busy set.
+changed-card : (h : Head) (o : HeadOrder) → headChanged h o .card ≡ h .card
+unfolding headChanged
+changed-card h (Mode k) = refl
+changed-card h (AllReply k) = refl
+changed-card h ClearErrors = refl
+changed-card h (ClearError e) = refl
+changed-card h (Pause k) = refl
+
+same-card : (t u : List ℕ) → ((i n : ℕ) → Beside i n → part u i n ≡ part t i n) → headOf u .card ≡ headOf t .card
+same-card t u same = rw (same-head t u same)
+
+ordered-card : (t : List ℕ) (o : Order) → soundTable t ≡ true → orderMade o ≡ true → headOf (changed t o) .card ≡ headOf t .card
+unfolding ofHead
+ordered-card t (Go x a) s made = same-card t _ (λ i n. changed-head t (Go x a) i n s made refl)
+ordered-card t (Stop x f) s made = same-card t _ (λ i n. changed-head t (Stop x f) i n s made refl)
+ordered-card t (StopAll f) s made = same-card t _ (λ i n. changed-head t (StopAll f) i n s made refl)
+ordered-card t (ChangeSpeed x v) s made = same-card t _ (λ i n. changed-head t (ChangeSpeed x v) i n s made refl)
+ordered-card t (Set x a) s made = same-card t _ (λ i n. changed-head t (Set x a) i n s made refl)
+ordered-card t (Ask x a) s made = same-card t _ (λ i n. changed-head t (Ask x a) i n s made refl)
+ordered-card t (AskHead a) s made = same-card t _ (λ i n. changed-head t (AskHead a) i n s made refl)
+ordered-card t (ForHead o) s made =
+    unfold changed in rw (head-back (motorsFreed t o) (headChanged (headOf t) o) (freed-length t o (sound-length t s))) (changed-card (headOf t) o)
+
+pub card-stays : (t : List ℕ) (k : Call) → headOf (after urqolina t k .table) .card ≡ headOf t .card
+unfolding after refused obeyed flagged
+card-stays t (command line reply) =
+    command-ways (λ a. headOf (a .table) .card ≡ headOf t .card) t line reply (λ n i. refl)
+    (λ s v h. rw (head-back t _ (sound-length t s))) (λ s o e. ordered-card t o s (rw e at (line-made line)))
+card-stays t (reading c n) =
+    reading-ways (λ a. headOf (a .table) .card ≡ headOf t .card) t c n (λ k i. refl) (λ s h. same-card t _ (motor-beside t c _ (sound-length t s) h))
+card-stays t (tick p) =
+    tick-ways (λ a. headOf (a .table) .card ≡ headOf t .card) t p (λ n i. refl)
+    (λ s. same-card t _ (motors-beside t (λ m. tickMotor m .motor) (sound-length t s)))
+
 -- On a table that is not sound a call leaves every byte; on a sound one the busy set is true before and after it.
 unsound-left : (t : List ℕ) (k : Call) → soundTable t ≡ false → after urqolina t k .table ≡ t
 unsound-left t k s = go (sizesRight t k) refl
@@ -282,47 +316,6 @@ same-bit t k d h same = go (soundTable t) refl
 same-motor : (t u : List ℕ) (d : ℕ) → recordAt u d ≡ recordAt t d → busy (motorAt u d) ≡ busy (motorAt t d)
 unfolding motorAt
 same-motor t u d e = rw e
-
--- What is busy after a reading was busy before it,
-read-before : (m : Motor) (n : ℕ) → busy (switchRead m n) ≡ true → busy m ≡ true
-unfolding switchRead
-read-before m n = go (busy m && blocked (m .drive .going) (contacted m n))
-  where
-    go : (t : Bool) → busy (cond t (endedWith lsend (contacted m n)) (contacted m n)) ≡ true → busy m ≡ true
-    go true b = absurd (false≢true b)
-    go false b = b
-
--- and what is after a tick, before the tick.
-tick-before : (m : Motor) → busy (tickMotor m .motor) ≡ true → busy m ≡ true
-tick-before m b = go (moving m) refl
-  where
-    go : (t : Bool) → moving m ≡ t → busy m ≡ true
-    go true e = moving-busy m e
-    go false e = let same : tickMotor m .motor ≡ m = rw (stopped-given-none m e) in rw same at b
-
--- A deed that sets nothing off leaves a motor that was not busy so.
-busy-before : (p : Bool) (m : Motor) (d : Deed) → ((s : Start) → d ≡ starts s → setsOff m s ≡ true → ⊥) → busy (performed p m d) ≡ true → busy m ≡ true
-unfolding performed speedChanged
-busy-before p m (starts s) idle b = go (setsOff m s) refl
-  where
-    go : (t : Bool) → setsOff m s ≡ t → busy m ≡ true
-    go true e = absurd (idle s refl e)
-    go false e = rw (off-stays p m s e) at b
-busy-before p m (stops f) idle b = go (busy m) refl
-  where
-    go : (t : Bool) → busy m ≡ t → t ≡ true
-    go true e = refl
-    go false e = sym e ∙ (rw (stopped-again f m e) at b)
-busy-before p m (speeds v) idle b = b
-busy-before p m (sets s) idle b = rw (set-drive m s) at b
-busy-before p m (reads n) idle b = read-before m n b
-busy-before p m ticks idle b = tick-before m b
-busy-before p m (pauses k) idle b = go (eqb k 0) b
-  where
-    go : (t : Bool) → busy (cond t (released m) m) ≡ true → busy m ≡ true
-    go true q = rw (released-drive m) at q
-    go false q = q
-busy-before p m rests idle b = b
 
 -- The bit of a channel tells on a sound table whether it is busy, before the call and after it; on another table the call leaves it.
 module _ (t : List ℕ) (k : Call) (d : ℕ) (h : d ≤ 15) where
@@ -362,6 +355,7 @@ neighbours = record {
   readings = reading-others;
   head = head;
   headLeft = head-left;
+  card = card-stays;
   headSet = head-set;
   otherBits = λ t line reply o x d h e n ne.
       unfold after in same-bit t (command line reply) d h (same-motor t _ d (unreached t line reply o d e (named-rests o x d n ne)));

@@ -17,19 +17,20 @@ use Rattle.line.specs.declared.Order.the-variants.{Go, Stop, StopAll, ChangeSpe
 use Rattle.line.specs.declared.Parsed.{Parsed}
 use Rattle.line.specs.declared.Parsed.the-variants.{Is, Nothing}
 use Rattle.line.specs.Forms.{orderOf}
-use Rattle.table.specs.Layout.{tableSize, motorAt}
+use Rattle.table.specs.Layout.{tableSize, headOf, full, motorAt}
 use Rattle.table.specs.Sound.{soundTable}
 use Rattle.commands.specs.Judging.{judgeMotor, judge}
 use Rattle.commands.specs.Changing.{flagged}
-use Rattle.obeying.specs.Taking.{refused, obeyed}
+use Rattle.obeying.specs.Taking.{orderIn, refused, obeyed}
 use Rattle.obeying.proofs.NumberLaws.{either, judge-passes, refused-number, obeyed-number}
 use Rattle.urqolina.specs.Calls.{commandCall}
+use Rattle.urqolina.proofs.CallLaws.{sizes-card}
 use Rattle.urqolina.proofs.Refusals.{fresh-made, fresh-refused, command-size, command-unsound, reading-size, reading-unsound, tick-size, tick-unsound, reading-accepted, tick-accepted}
 use Rattle.laws.specs.Sequences.{urqolina, Call, command, reading, tick, After, after}
 use Rattle.laws.specs.Deeds.{verdict, orderTaken}
 use Rattle.laws.specs.ReadBack.{isSome}
 use Rattle.laws.specs.Numbers.{isCommand, lent, sizesRight, starting, Numbers}
-use Rattle.laws.proofs.CallWays.{sound-ways, Silent, silent-other, command-ways, reading-ways, tick-ways, line-number}
+use Rattle.laws.proofs.CallWays.{on-card, sound-ways, Silent, silent-other, command-ways, reading-ways, tick-ways, line-number}
 
 -- A call with a wrong size gives 5, and one on a table that is not sound 6.
 sizes : (t : List ℕ) (k : Call) → sizesRight t k ≡ false → after urqolina t k ≡ record { result = 5; table = t; buffer = lent k }
@@ -98,9 +99,9 @@ split t (command line reply) =
 split t (reading c x) = reading-ways (λ a. a .result % 256 ≡ 4 → ⊥) t c x (λ n h. silent-other n 4 h refl) (λ s h e. absurd (omega (arith, e)))
 split t (tick p) = tick-ways (λ a. a .result % 256 ≡ 4 → ⊥) t p (λ n h. silent-other n 4 h refl) (λ s e. absurd (omega (arith, e)))
 
--- 8 to 12, the numbers of what keeps a motor from leaving; an order that is no start gets none of them, and nor does a line without form.
+-- 8 to 12 and 14, the numbers of what keeps a motor from leaving; an order that is no start gets none of them, and nor does a line without form.
 abbrev hinders : ℕ → Bool
-hinders n = leb 8 n && leb n 12
+hinders n = leb 8 n && not (eqb n 13)
 
 abbrev unhindering : Verdict → Bool
 unhindering v = not (hinders (numberOf v))
@@ -109,7 +110,7 @@ unhindered : (t : List ℕ) (o : Order) → starting o ≡ false → unhindering
 unfolding judgeMotor numberOf
 unhindered t o i = judge-passes unhindering t o refl refl refl (by-motor o i)
   where
-    by-motor : (o : Order) → starting o ≡ false → unhindering (judgeMotor t o) ≡ true
+    by-motor : (o : Order) → starting o ≡ false → unhindering (judgeMotor (full (headOf t)) t o) ≡ true
     by-motor (Go x s) i = absurd (false≢true (sym i))
     by-motor (Stop x e) i = refl
     by-motor (StopAll e) i = refl
@@ -119,22 +120,22 @@ unhindered t o i = judge-passes unhindering t o refl refl refl (by-motor o i)
     by-motor (AskHead q) i = refl
     by-motor (ForHead h) i = refl
 
-starts : (t line reply : List ℕ) (n : ℕ) → 8 ≤ n → n ≤ 12 → commandCall t line reply .result % 256 ≡ n → isSome starting (orderOf line) ≡ true
-starts t line reply n low high e = sized (sizesRight t (command line reply)) refl
+starts : (t line reply : List ℕ) (n : ℕ) → 8 ≤ n → (n ≡ 13 → ⊥) → commandCall t line reply .result % 256 ≡ n → isSome starting (orderOf line) ≡ true
+starts t line reply n low other e = sized (sizesRight t (command line reply)) refl
   where
-    judged : (p : Parsed) → hinders (numberOf (verdict t p)) ≡ true → isSome starting p ≡ true
-    judged Nothing h = absurd (false≢true (unfold numberOf in h))
-    judged (Is o) h = go (starting o) refl
+    found : (p : Parsed) → orderIn t line ≡ p → hinders (numberOf (verdict t p)) ≡ true → isSome starting (orderOf line) ≡ true
+    found Nothing q h = absurd (false≢true (unfold numberOf in h))
+    found (Is o) q h = rw (on-card (headOf t .card) (orderOf line) o q) (go (starting o) refl)
       where
         go : (b : Bool) → starting o ≡ b → starting o ≡ true
         go true i = i
         go false i = absurd (false≢true (rw h at (unhindered t o i)))
 
     number : hinders n ≡ true
-    number = rw (le-leb 8 n low, le-leb n 12 high)
+    number = rw (le-leb 8 n low, ne-eqb n 13 other)
 
     sound : sizesRight t (command line reply) ≡ true → (b : Bool) → soundTable t ≡ b → isSome starting (orderOf line) ≡ true
-    sound z true s = judged (orderOf line) (rw (sym (line-number t line reply z s) ∙ e) number)
+    sound z true s = found (orderIn t line) refl (rw (sym (line-number t line reply z s) ∙ e) number)
     sound z false s = absurd (omega (arith, low, rw (command-unsound t line reply z s) at e))
 
     sized : (b : Bool) → sizesRight t (command line reply) ≡ b → isSome starting (orderOf line) ≡ true
@@ -163,16 +164,24 @@ given Nothing = false
 decides : (t line reply : List ℕ) → soundTable t ≡ true
     → eqb (commandCall t line reply .result % 256) 0 ≡ given (orderTaken t (command line reply))
 decides t line reply s =
-    let v = verdict t (orderOf line) in
+    let v = verdict t (orderIn t line) in
     sound-ways (λ a p. eqb (a .result % 256) 0 ≡ given p) t line reply s refl
     (λ h. ne-eqb (refused t v reply .result % 256) 0 (λ z. refusal-some (numberOf v) h (sym (refused-number t v reply) ∙ z)))
     (λ o e z. eq-eqb (obeyed t o reply .result % 256) 0 (obeyed-number t o reply))
 
+-- Bytes that are no table's, or a card that is none, fail the test of both.
+not-both : (b : List ℕ) (card : ℕ) → ((length b ≡ tableSize) × (card ≤ 1) → ⊥) → (eqb (length b) tableSize && leb card 1) ≡ false
+not-both b card ne = go (eqb (length b) tableSize && leb card 1) refl
+  where
+    go : (t : Bool) → (eqb (length b) tableSize && leb card 1) ≡ t → t ≡ false
+    go true e = absurd (ne (sizes-card b card e))
+    go false e = refl
+
 -- The numbers that the demands ask for.
 pub numbers : Numbers urqolina
 numbers = record {
-  freshMade = λ b e. fresh-made b (eq-eqb (length b) tableSize e);
-  freshRefused = λ b ne. fresh-refused b (ne-eqb (length b) tableSize ne);
+  freshMade = λ b card e h. fresh-made b card (rw (eq-eqb (length b) tableSize e) (le-leb card 1 h));
+  freshRefused = λ b card ne. fresh-refused b card (not-both b card ne);
   sizes = sizes;
   unsound = unsound;
   formless = λ t line reply e s q. unfold numberOf in rw q at (line-number t line reply e s);

@@ -2,11 +2,11 @@
 -- nothing.
 use mathlib.Core.Path.{_≡_, refl, sym, _∙_}
 use mathlib.Core.List.{List}
-use mathlib.Core.Bool.{Bool, true, false}
+use mathlib.Core.Bool.{Bool, true, false, _&&_, false≢true}
 use Prim.Native.Nat.{ℕ, _%_, _≤_}
 use lib.ListN.{length}
 use lib.Dec.{eqb, leb}
-use borrow.Author.Tests.{leb-true, eqb-true, eqb-false}
+use borrow.Author.Tests.{leb-true, le-leb, eqb-true, eq-eqb}
 use Rattle.motor.proofs.SoundLaws.{and-r}
 use Rattle.drive.specs.Numbers.{numberOf, isRefusal}
 use Rattle.line.specs.declared.Question.{Question}
@@ -16,14 +16,17 @@ use Rattle.line.specs.declared.Order.the-variants.{Go, Stop, StopAll, ChangeSpe
 use Rattle.line.specs.declared.Parsed.{Parsed}
 use Rattle.line.specs.declared.Parsed.the-variants.{Is, Nothing}
 use Rattle.line.specs.Forms.{orderOf}
-use Rattle.table.specs.Layout.{tableSize}
+use Rattle.table.specs.Layout.{tableSize, headOf}
 use Rattle.table.specs.Sound.{soundTable}
 use Rattle.commands.specs.Judging.{judge}
+use Rattle.obeying.specs.Taking.{orderIn}
 use Rattle.obeying.proofs.NumberLaws.{refused-judged}
+use Rattle.urqolina.proofs.CallLaws.{sizes-card}
 use Rattle.laws.specs.Sequences.{Library, urqolina, Call, command, reading, tick, After, after}
 use Rattle.laws.specs.ReadBack.{isSome}
 use Rattle.laws.specs.Numbers.{sizesRight, asks}
 use Rattle.laws.specs.Demands.{Demands}
+use Rattle.laws.proofs.CallWays.{on-card}
 use Rattle.laws.proofs.DemandLaws.{demands}
 
 -- Two outcomes with the same result, table and buffer are the same.
@@ -54,7 +57,7 @@ module _ (l : Library) (d : Demands l) where
     enough = leb-true 32 (length reply) (and-r (eqb (length t) tableSize) (leb 32 (length reply)) e)
 
     -- Where the tables are the same, the result and the reply of a line that is no read are.
-    from-table : isSome asks (orderOf line) ≡ false → l .command t line reply .table ≡ urqolina .command t line reply .table
+    from-table : isSome asks (orderIn t line) ≡ false → l .command t line reply .table ≡ urqolina .command t line reply .table
         → after l t (command line reply) ≡ after urqolina t (command line reply)
     unfolding after
     from-table n u =
@@ -67,8 +70,10 @@ module _ (l : Library) (d : Demands l) where
         → l .command t line reply .table ≡ urqolina .command t line reply .table
     refused-table n h p q = d .numbers .flags t line reply n h p ∙ sym (demands .numbers .flags t line reply n h q)
 
-    ordered : (o : Order) → orderOf line ≡ Is o → Asked o → after l t (command line reply) ≡ after urqolina t (command line reply)
-    ordered _ q (asks-channel x k) = d .replies t line reply s enough .reads x k q ∙ sym (demands .replies t line reply s enough .reads x k q)
+    ordered : (o : Order) → orderIn t line ≡ Is o → Asked o → after l t (command line reply) ≡ after urqolina t (command line reply)
+    ordered _ q (asks-channel x k) =
+        let asked = on-card (headOf t .card) (orderOf line) (Ask x k) q in
+        d .replies t line reply s enough .reads x k asked ∙ sym (demands .replies t line reply s enough .reads x k asked)
     ordered _ q (asks-head k) = d .replies t line reply s enough .headReads k q ∙ sym (demands .replies t line reply s enough .headReads k q)
     ordered o q (unasked _ n) = from-table (rw q n) (go (eqb (numberOf (judge t o)) 0) refl)
       where
@@ -80,7 +85,7 @@ module _ (l : Library) (d : Demands l) where
             refused-table (numberOf (judge t o)) (refused-judged t o z)
             (d .numbers .judged t line reply o e s q) (demands .numbers .judged t line reply o e s q)
 
-    lined : (p : Parsed) → orderOf line ≡ p → after l t (command line reply) ≡ after urqolina t (command line reply)
+    lined : (p : Parsed) → orderIn t line ≡ p → after l t (command line reply) ≡ after urqolina t (command line reply)
     lined (Is o) q = ordered o q (asked o)
     lined Nothing q =
         from-table (rw q refl)
@@ -88,7 +93,7 @@ module _ (l : Library) (d : Demands l) where
 
   -- a call on a sound table, with the sizes right
   accepted : (t : List ℕ) (k : Call) → sizesRight t k ≡ true → soundTable t ≡ true → after l t k ≡ after urqolina t k
-  accepted t (command line reply) e s = lined t line reply e s (orderOf line) refl
+  accepted t (command line reply) e s = lined t line reply e s (orderIn t line) refl
   accepted t (reading c n) e s =
       same-after _ _ (d .numbers .done t (reading c n) refl e s ∙ sym (demands .numbers .done t (reading c n) refl e s))
       (unfold after in d .changes .readings t c n e s ∙ sym (demands .changes .readings t c n e s)) (unfold after in refl)
@@ -107,9 +112,11 @@ module _ (l : Library) (d : Demands l) where
       go true e false s = d .numbers .unsound t k e s ∙ sym (demands .numbers .unsound t k e s)
       go true e true s = accepted t k e s
 
-  pub one-fresh : (b : List ℕ) → l .fresh b ≡ urqolina .fresh b
-  one-fresh b = go (eqb (length b) tableSize) refl
+  pub one-fresh : (b : List ℕ) (card : ℕ) → l .fresh b card ≡ urqolina .fresh b card
+  one-fresh b card = go (eqb (length b) tableSize && leb card 1) refl
     where
-      go : (a : Bool) → eqb (length b) tableSize ≡ a → l .fresh b ≡ urqolina .fresh b
-      go true e = let w = eqb-true (length b) tableSize e in d .numbers .freshMade b w ∙ sym (demands .numbers .freshMade b w)
-      go false e = let w = eqb-false (length b) tableSize e in d .numbers .freshRefused b w ∙ sym (demands .numbers .freshRefused b w)
+      go : (a : Bool) → (eqb (length b) tableSize && leb card 1) ≡ a → l .fresh b card ≡ urqolina .fresh b card
+      go true e = let w = sizes-card b card e in d .numbers .freshMade b card (w .0) (w .1) ∙ sym (demands .numbers .freshMade b card (w .0) (w .1))
+      go false e =
+          let w : (length b ≡ tableSize) × (card ≤ 1) → ⊥ = λ h. false≢true (sym e ∙ rw (eq-eqb (length b) tableSize (h .0)) (le-leb card 1 (h .1))) in
+          d .numbers .freshRefused b card w ∙ sym (demands .numbers .freshRefused b card w)

@@ -3,7 +3,7 @@
 use mathlib.Core.Path.{_≡_, refl, _∙_}
 use mathlib.Core.List.{List, [], _++_, append-nil, flatMap}
 use mathlib.Core.Bool.{Bool, true, false}
-use mathlib.Core.Logic.{_⊎_, inl, inr}
+use mathlib.Core.Logic.{inl, inr}
 use Prim.Native.Nat.{ℕ, zero, suc, _+_, _*_, _≤_, _<_}
 use native.Mathlib.Nat.{mul-zero, mul-suc, mul-le-mul-left}
 use native.Mathlib.Omega.{arith}
@@ -19,11 +19,10 @@ use Rattle.record.proofs.RoundTrip.{record-length}
 use Rattle.motor.specs.Sound.{soundMotor}
 use Rattle.motor.proofs.RecordLaws.{sound-written-read}
 use Rattle.pulses.specs.Ticks.{tickCount}
-use Rattle.table.specs.Layout.{tableSize, recordStart, recordAt, records, motorAt, sealed, withMotor, withMotors, freshTable}
+use Rattle.table.specs.Layout.{tableSize, headBytes, headRest, freshHead, recordStart, recordAt, records, motorAt, sealed, withMotors, freshTable}
 use Rattle.table.specs.Computing.{computing-table}
 use Rattle.table.proofs.PieceLaws.{flat-more, flat-length, part-before}
-use Rattle.table.proofs.SealLaws.{sealed-before, sealed-after}
-use Rattle.table.proofs.KeptLaws.{head-before, head-behind}
+use Rattle.table.proofs.SealLaws.{Beside, sealed-after, sealed-beside}
 use Rattle.urqolina.specs.Calls.{counts}
 
 -- Pieces of n bytes, laid one after the other: the one numbered c is the c-th that was laid.
@@ -54,15 +53,6 @@ pub flat-part : (f : List ℕ → List ℕ) (w n : ℕ) (s : List ℕ) → ((r :
 flat-part f w n s h k c l =
     laid-part (λ j. flatMap f (pieces w j s)) (λ j. f (take w (drop (w * j) s))) n (unfold flatMap pieces in refl) (λ j. flat-more f w j s) (λ j. h (take w (drop (w * j) s))) k .1 c l
 
--- bytes of the head beside the busy set: 0 to 3, or 6 to 63
-abbrev pub Beside : ℕ → ℕ → Type 0
-Beside i n = (i + n ≤ 4) ⊎ ((6 ≤ i) × (i + n ≤ 64))
-
--- A motor that is written leaves them.
-pub motor-beside : (t : List ℕ) (c : ℕ) (m : Motor) → length t ≡ tableSize → c ≤ 15 → (i n : ℕ) → Beside i n → part (withMotor t c m) i n ≡ part t i n
-motor-beside t c m e h i n (inl l) = head-before t c m e h i n l
-motor-beside t c m e h i n (inr l) = head-behind t c m e h i n (l .0) (l .1)
-
 -- Sixteen motors changed by g.
 module _ (t : List ℕ) (g : Motor → Motor) (whole : length t ≡ tableSize) where
   -- their records, one after the other, and the table with them
@@ -90,8 +80,11 @@ module _ (t : List ℕ) (g : Motor → Motor) (whole : length t ≡ tableSize) w
 
   -- They leave the head beside the busy set,
   pub motors-beside : (i n : ℕ) → Beside i n → part (withMotors t g) i n ≡ part t i n
-  motors-beside i n (inl l) = rw (motors-laid) (sealed-before laid laid-length i n l ∙ laid-head i n (omega arith))
-  motors-beside i n (inr l) = rw (motors-laid) (sealed-after laid laid-length i n (l .0) ∙ laid-head i n (l .1))
+  motors-beside i n b = rw (motors-laid) (sealed-beside laid laid-length i n b ∙ laid-head i n (within b))
+    where
+      within : Beside i n → i + n ≤ 64
+      within (inl l) = omega arith
+      within (inr l) = l .1
 
   -- and each record is that of the motor as it is then.
   laid-record : (c : ℕ) → c ≤ 15 → recordAt laid c ≡ recordOf (g (motorAt t c))
@@ -123,10 +116,10 @@ counts-part t c h =
     ∙ rw drop-drop
 
 -- Each motor of a fresh table is a fresh motor.
-pub fresh-motor : (c : ℕ) → c ≤ 15 → motorAt freshTable c ≡ freshMotor
+pub fresh-motor : (card c : ℕ) → c ≤ 15 → motorAt (freshTable card) c ≡ freshMotor
 unfolding motorAt freshTable part
-fresh-motor c h =
+fresh-motor card c h =
     let all : List ℕ = gather (λ j. recordOf freshMotor) 16 in
     let one : take 64 (drop (64 * c) all) ≡ recordOf freshMotor =
     laid-part (gather (λ j. recordOf freshMotor)) (λ j. recordOf freshMotor) 64 (unfold gather in refl) (λ j. unfold gather in refl) (λ j. record-length freshMotor) 16 .1 c (omega arith) in
-    rw (← drop-drop (64 * c) 64 (replicate 64 0 ++ all), drop-at (replicate 64 0) all 64 refl, one) (sound-written-read freshMotor (unfold computing-table in refl))
+    rw (← drop-drop (64 * c) 64 (headBytes (freshHead card) ++ (replicate headRest 0 ++ all)), one) (sound-written-read freshMotor (unfold computing-table in refl))

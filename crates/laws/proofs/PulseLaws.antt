@@ -82,19 +82,19 @@ module _ (c : ℕ) (on : c ≤ 15) where
       run-kept (after urqolina t k .table) ks (travelled n j (deed c t k)) (next t k s .sound) then
 
   -- A fresh motor stands stopped at zero.
-  fresh-balanced : Balanced (motorAt freshTable c) noDrive
+  fresh-balanced : (card : ℕ) → Balanced (motorAt (freshTable card) c) noDrive
   unfolding freshMotor
-  fresh-balanced =
-      rw (fresh-motor c on)
+  fresh-balanced card =
+      rw (fresh-motor card c on)
       (record { lasting = refl; counting = sym (idle-still freshMotor refl); going = λ d. absurd (false≢true d); aim = λ d. absurd (false≢true d); speed = λ d. absurd (false≢true d); exact = λ d. absurd (false≢true d); most = omega arith })
 
-  fresh-unpaused : noDrive .paused ≡ pausedIn freshTable
+  fresh-unpaused : (card : ℕ) → noDrive .paused ≡ pausedIn (freshTable card)
   unfolding computing-table
-  fresh-unpaused = refl
+  fresh-unpaused card = refl
 
-  fresh-kept : Kept (motorAt freshTable c) noTravel
+  fresh-kept : (card : ℕ) → Kept (motorAt (freshTable card) c) noTravel
   unfolding freshMotor
-  fresh-kept = rw (fresh-motor c on) refl
+  fresh-kept card = rw (fresh-motor card c on) refl
 
 -- A switch reading ends a drive, with LSEND, where the switch of its direction is active and enabled after it, and only there.
 module _ (m : Motor) (n : ℕ) where
@@ -152,7 +152,7 @@ ended-moving m d = go (way m)
     go (goes e r u) h = e
 
 -- An accepted start that sets off drives.
-leaves-busy : {q : Bool} {m n : Motor} {going : ℕ} {c : Course} → Leaves q m going c n → (busy n ≡ true) × (moving n ≡ not q)
+pub leaves-busy : {q : Bool} {m n : Motor} {going : ℕ} {c : Course} → Leaves q m going c n → (busy n ≡ true) × (moving n ≡ not q)
 leaves-busy {q = q} {m = m} {going = going} (leaves kind target h e) =
     let off : busy (launched q m going kind target) ≡ true = rw (ne-eqb going 0 (omega arith)) in
     (off, busy-moves (launched q m going kind target) off)
@@ -195,12 +195,12 @@ set-flags m (SetSwitches q r) = refl
 set-flags m (SetMotor q) = refl
 
 -- A motor that stands stopped before a deed and after it keeps its end flags.
-start-flags : (q : Bool) (m : Motor) (s : Start) → soundMotor m ≡ true → judgeStart m (courseOf m s) ≡ Done → startMade s ≡ true
+start-flags : (full q : Bool) (m : Motor) (s : Start) → soundMotor m ≡ true → judgeStart full m (courseOf m s) ≡ Done → startMade s ≡ true
     → busy (started q m (courseOf m s)) ≡ false → started q m (courseOf m s) .ended ≡ m .ended
-start-flags q m s o j r n = go (setsOff m s) refl
+start-flags full q m s o j r n = go (setsOff m s) refl
   where
     go : (b : Bool) → setsOff m s ≡ b → started q m (courseOf m s) .ended ≡ m .ended
-    go true off = absurd (false≢true (sym n ∙ leaves-busy (off-leaves q m s o j r off) .0))
+    go true off = absurd (false≢true (sym n ∙ leaves-busy (off-leaves full q m s o j r off) .0))
     go false off = rw (off-stays q m s off)
 
 either-flags : (b : Bool) (x y : Motor) (e : ℕ) → x .ended ≡ e → y .ended ≡ e → cond b x y .ended ≡ e
@@ -210,7 +210,7 @@ either-flags false x y e p r = r
 flags-kept : (q : Bool) (m : Motor) (d : Deed) → soundMotor m ≡ true → Fits m d → busy m ≡ false → busy (performed q m d) ≡ false
     → performed q m d .ended ≡ m .ended
 unfolding performed
-flags-kept q m (D.starts s) o (fits-start _ still j w r) e n = start-flags q m s o j r n
+flags-kept q m (D.starts s) o (fits-start full _ still j w r) e n = start-flags full q m s o j r n
 flags-kept q m (D.stops flags) o f e n = rw (stopped-again flags m e)
 flags-kept q m (D.speeds v) o (fits-speed _ moves j) e n = absurd (false≢true (sym e ∙ moves))
 flags-kept q m (D.sets s) o f e n = set-flags m s
@@ -238,13 +238,13 @@ module _ (b : Beginning) (c : ℕ) (on : c ≤ 15) (ks : List Call) where
   a = account urqolina c (fromFresh urqolina b) noDrive ks
 
   pub balance : Balanced m a × (a .paused ≡ pausedIn t)
-  balance = rw (made-fresh b) (run-balanced c on freshTable ks noDrive fresh-sound (fresh-unpaused c on) (fresh-balanced c on))
+  balance = rw (made-fresh b) (run-balanced c on (freshTable (b .card)) ks noDrive (fresh-sound (b .card) (b .known)) (fresh-unpaused c on (b .card)) (fresh-balanced c on (b .card)))
 
   balanced : Balanced m a
   balanced = balance .0
 
   kept : Kept m (travel urqolina c (fromFresh urqolina b) noTravel ks)
-  kept = rw (made-fresh b) (run-kept c on freshTable ks noTravel fresh-sound (fresh-kept c on))
+  kept = rw (made-fresh b) (run-kept c on (freshTable (b .card)) ks noTravel (fresh-sound (b .card) (b .known)) (fresh-kept c on (b .card)))
 
   -- what is known of the motor after a call that is the deed d
   followed : (k : Call) (d : Deed) → deed c t k ≡ d → Follows t (after urqolina t k .table) c d
@@ -256,7 +256,7 @@ module _ (b : Beginning) (c : ℕ) (on : c ≤ 15) (ks : List Call) where
   starting k st e off = let f = followed k (D.starts st) e in rw (f .motor, balance .1) (go (f .fits))
     where
       go : Fits m (D.starts st) → (busy (started (pausedIn t) m (courseOf m st)) ≡ true) × (moving (started (pausedIn t) m (courseOf m st)) ≡ not (pausedIn t))
-      go (fits-start _ still h w r) = leaves-busy (off-leaves (pausedIn t) m st o h r off)
+      go (fits-start full _ still h w r) = leaves-busy (off-leaves full (pausedIn t) m st o h r off)
 
   releasing : (k : Call) → deed c t k ≡ D.pauses 0
       → (moving (motorAt (after urqolina t k .table) c) ≡ busy m) × (motorAt (after urqolina t k .table) c .drive ≡ letGo (m .drive))

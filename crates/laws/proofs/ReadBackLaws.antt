@@ -2,7 +2,6 @@
 use mathlib.Core.Path.{_≡_, refl}
 use mathlib.Core.List.{List, [], _∷_}
 use mathlib.Core.Bool.{Bool, true, false, not, cond}
-use mathlib.Core.Logic.{inl}
 use Prim.Native.Nat.{ℕ, _*_, _≤_}
 use native.Mathlib.Nat.{zero-add}
 use native.Mathlib.Omega.{arith}
@@ -20,30 +19,31 @@ use Rattle.drive.specs.Drives.{switchRead}
 use Rattle.pulses.specs.Ticks.{tickMotor}
 use Rattle.line.specs.declared.Setting.{Setting}
 use Rattle.line.specs.declared.Question.the-variants.{AskStatus}
-use Rattle.line.specs.declared.HeadQuestion.the-variants.{AskAllReply, AskPause}
+use Rattle.line.specs.declared.HeadQuestion.the-variants.{AskAllReply, AskPause, AskFree}
 use Rattle.line.specs.declared.HeadOrder.{HeadOrder}
 use Rattle.line.specs.declared.HeadOrder.the-variants.{Mode, AllReply, ClearErrors, ClearError, Pause}
 use Rattle.line.specs.declared.Order.{Order}
 use Rattle.line.specs.declared.Order.the-variants.{Go, Stop, StopAll, ChangeSpeed, Set, Ask, AskHead, ForHead}
 use Rattle.line.specs.declared.Parsed.{Parsed}
 use Rattle.line.specs.declared.Parsed.the-variants.{Is, Nothing}
-use Rattle.line.specs.Forms.{orderOf}
+use Rattle.line.specs.Forms.{asksOn, hasForm}
 use Rattle.line.specs.Made.{onBench, settingMade, orderMade}
 use Rattle.line.proofs.OrderLaws.{line-made}
 use Rattle.orders.specs.Values.{needsRemote, settingInRange, valueInRange}
-use Rattle.replies.specs.Replies.{questionText, allReplyText, pauseText, headText}
+use Rattle.replies.specs.Replies.{questionText, allReplyText, pauseText, freeText, headText}
 use Rattle.status.specs.Status.{modeLetter, statusText}
 use Rattle.table.specs.Layout.{tableSize, headOf, withHead, withErrors, motorAt, withMotor, withMotors}
 use Rattle.table.specs.declared.head.Head.{Head}
 use Rattle.table.specs.Sound.{soundTable}
 use Rattle.table.proofs.TableLaws.{sound-length, sound-motor-at}
 use Rattle.table.proofs.HeadLaws.{same-head, head-back}
-use Rattle.commands.specs.Judging.{meetsBusy, judgeMotor, judge}
+use Rattle.table.proofs.KeptLaws.{motor-beside}
+use Rattle.commands.specs.Judging.{meetsBusy, judgeMotor, judgeWhere, judge}
 use Rattle.commands.proofs.HeadOrderLaws.{freed-length}
 use Rattle.commands.specs.Changing.{headChanged, motorsFreed, changed, flagged}
 use Rattle.commands.proofs.ChannelLaws.{named, named-channel}
 use Rattle.commands.specs.Answers.{answer}
-use Rattle.obeying.specs.Taking.{refused, obeyed, taken}
+use Rattle.obeying.specs.Taking.{orderIn, refused, obeyed, taken}
 use Rattle.urqolina.specs.Calls.{commandCall}
 use Rattle.laws.specs.Sequences.{urqolina, Call, command, reading, tick, after, run, Beginning, ran, never}
 use Rattle.laws.specs.Deeds.{verdict, sets, orderTaken, deedOf, deed}
@@ -52,8 +52,8 @@ use Rattle.laws.specs.ReadBack.{questionFor, textFor, changes, headTopic
 use Rattle.laws.specs.Neighbours.{ofHead}
 use Rattle.laws.proofs.DeedLaws.{Fits, fits-set, performed, pausedIn}
 use Rattle.laws.proofs.Following.{Follows, order-follows, next}
-use Rattle.laws.proofs.CallWays.{sound-ways, reading-ways, tick-ways}
-use Rattle.laws.proofs.PartLaws.{motor-beside, motors-beside}
+use Rattle.laws.proofs.CallWays.{in-form, sound-ways, reading-ways, tick-ways}
+use Rattle.laws.proofs.PartLaws.{motors-beside}
 use Rattle.laws.proofs.NeighbourLaws.{changed-head}
 use Rattle.laws.proofs.LastingLaws.{run-sound, ran-sound}
 use Rattle.laws.proofs.TravelLaws.{tick-count}
@@ -86,7 +86,7 @@ data Outcome (t : List ℕ) : Parsed → List ℕ → Type 0 where
 outcome : (t : List ℕ) (k : Call) → soundTable t ≡ true → Outcome t (orderTaken t k) (after urqolina t k .table)
 unfolding orderTaken after refused obeyed
 outcome t (command line reply) s =
-    sound-ways (λ a p. Outcome t p (a .table)) t line reply s leaves (λ h. refuses (numberOf (verdict t (orderOf line)))) (λ o e z. obeys o (rw e at (line-made line)) z)
+    sound-ways (λ a p. Outcome t p (a .table)) t line reply s leaves (λ h. refuses (numberOf (verdict t (orderIn t line)))) (λ o e z. obeys o (rw e at (line-made line)) z)
 outcome t (reading x n) s = reading-ways (λ a. Outcome t Nothing (a .table)) t x n (λ k i. leaves) (λ o h. motor x (switchRead (motorAt t x) n) h)
 outcome t (tick p) s = tick-ways (λ a. Outcome t Nothing (a .table)) t p (λ k i. leaves) (λ o. motors (λ m. tickMotor m .motor))
 
@@ -111,7 +111,7 @@ takes t k o s = go (outcome t k s)
     go (motors f) e = no-order e
 
 -- An order that is accepted and changes nothing answers its text.
-pub asked : (t line reply : List ℕ) (o : Order) (text : List ℕ) → soundTable t ≡ true → 32 ≤ length reply → orderOf line ≡ Is o
+pub asked : (t line reply : List ℕ) (o : Order) (text : List ℕ) → soundTable t ≡ true → 32 ≤ length reply → orderIn t line ≡ Is o
     → judge t o ≡ Done → changed t o ≡ t → answer t o ≡ text
     → after urqolina t (command line reply) ≡ record { result = 256 * length text; table = t; buffer = put reply 0 text }
 unfolding after commandCall taken obeyed numberOf
@@ -121,6 +121,11 @@ asked t line reply o text s h e j c a = rw (right-size t s, le-leb 32 (length re
 status-letter : (reply : List ℕ) (n x : ℕ) (m : Motor) → getD (put reply 0 (questionText n x m AskStatus)) 0 0 ≡ modeLetter n
 unfolding put questionText statusText
 status-letter reply n x m = refl
+
+-- So does what `STQ?` answers.
+free-letter : (reply : List ℕ) (h : Head) → getD (put reply 0 (headText h AskFree)) 0 0 ≡ modeLetter (h .mode)
+unfolding put headText freeText
+free-letter reply h = refl
 
 -- what an accepted setting leaves: its channel's motor tells it
 record Settled (u : List ℕ) (x : ℕ) (s : Setting) : Type 0 where
@@ -160,9 +165,9 @@ told-on u later x s o h w = run-keeps (λ t. Tells (motorAt t x) s) (changes urq
         rw (next t k o .follows x (w .channel) .motor)
         (performed-tells (pausedIn t) (motorAt t x) (deed x t k) (countAt (after urqolina t k .buffer) x) s (sound-motor-at t x o (w .channel)) count (w .made) e told)
 
--- the fields of the head, numbered as their orders are: 0 the mode, 1 all-reply, 2 the error flags, 3 pause
+-- the fields of the head, numbered as their orders are: 0 the mode, 1 all-reply, 2 the error flags, 3 pause; and the card, which none is of
 abbrev field : ℕ → Head → ℕ
-field i h = cond (eqb 0 i) (h .mode) (cond (eqb 1 i) (h .reply) (cond (eqb 2 i) (h .errors) (cond (eqb 3 i) (h .pause) 0)))
+field i h = cond (eqb 0 i) (h .mode) (cond (eqb 1 i) (h .reply) (cond (eqb 2 i) (h .errors) (cond (eqb 3 i) (h .pause) (h .card))))
 
 -- Error flags that are written leave the other fields.
 errors-field : (h : Head) (n i : ℕ) → eqb 2 i ≡ false → field i (withErrors h n) ≡ field i h
@@ -188,7 +193,7 @@ module _ (t : List ℕ) (s : soundTable t ≡ true) (i : ℕ) (l : eqb 2 i ≡ f
 
   -- an order that is not of the head
   unwritten : (o : Order) → orderMade o ≡ true → ofHead o ≡ false → field i (headOf (changed t o)) ≡ field i (headOf t)
-  unwritten o made q = rw (same-head t (changed t o) (λ j n h. changed-head t o j n s made q (inl h)))
+  unwritten o made q = rw (same-head t (changed t o) (λ j n h. changed-head t o j n s made q h))
 
   order-field : (o : Order) → orderMade o ≡ true → writesField i o ≡ false → field i (headOf (changed t o)) ≡ field i (headOf t)
   unfolding ofHead writesField
@@ -208,8 +213,8 @@ module _ (t : List ℕ) (s : soundTable t ≡ true) (i : ℕ) (l : eqb 2 i ≡ f
       go leaves e = refl
       go (refuses n) e = unfold flagged in written t _ whole (errors-field (headOf t) (withBit (flagBit n) (headOf t .errors)) i l)
       go (obeys o m j) e = order-field o m e
-      go (motor x m h) e = rw (same-head t (withMotor t x m) (λ j n l. motor-beside t x m whole h j n (inl l)))
-      go (motors f) e = rw (same-head t (withMotors t f) (λ j n h. motors-beside t f whole j n (inl h)))
+      go (motor x m h) e = rw (same-head t (withMotor t x m) (motor-beside t x m whole h))
+      go (motors f) e = rw (same-head t (withMotors t f) (motors-beside t f whole))
 
 -- So it stays over every sequence that takes no such order.
 field-on : (u : List ℕ) (later : List Call) (i n : ℕ) → eqb 2 i ≡ false → soundTable u ≡ true → never urqolina (changesHead i) u later ≡ true
@@ -220,22 +225,24 @@ field-on u later i n h o e w =
 -- The demand: what was set is answered, whatever came before, and whatever came since that did not change it.
 pub reads-back : (b : Beginning) (ks : List Call) (k : Call) (later : List Call) (line reply : List ℕ) (enough : 32 ≤ length reply)
     → ReadsBack urqolina b ks k later line reply enough
-unfolding judge needsRemote valueInRange meetsBusy judgeMotor changed headChanged answer headText allReplyText pauseText
+unfolding judge judgeWhere hasForm asksOn needsRemote valueInRange meetsBusy judgeMotor changed headChanged answer headText allReplyText pauseText
 reads-back b ks k later line reply enough =
     record {
       setting = λ x s e h q.
-          read (Ask x (questionFor s)) (textFor s) q refl refl (told-on u later x s sound h (settles t k x s start e) (headOf v .mode) x);
+          read (Ask x (questionFor s)) (textFor s) (in-form v line _ q refl) refl refl (told-on u later x s sound h (settles t k x s start e) (headOf v .mode) x);
       held = λ x s e h n. told-on u later x s sound h (settles t k x s start e) n x;
       replyHeld = λ n e h. kept 1 (AllReply n) n refl e refl h;
       modeHeld = λ n e h. kept 0 (Mode n) n refl e refl h;
       allReply = λ n e h q.
-          read (AskHead AskAllReply) (cond (eqb n 1) (bytes "EN") (bytes "DS")) q refl refl (rw (kept 1 (AllReply n) n refl e refl h));
+          read (AskHead AskAllReply) (cond (eqb n 1) (bytes "EN") (bytes "DS")) (in-form v line _ q refl) refl refl (rw (kept 1 (AllReply n) n refl e refl h));
       pauseHeld = λ n e h. kept 3 (Pause n) n refl e refl h;
       pause = λ n e h q.
-          read (AskHead AskPause) (cond (eqb n 1) (bytes "ON") (bytes "OFF")) q refl refl (rw (kept 3 (Pause n) n refl e refl h));
+          read (AskHead AskPause) (cond (eqb n 1) (bytes "ON") (bytes "OFF")) (in-form v line _ q refl) refl refl (rw (kept 3 (Pause n) n refl e refl h));
       mode = λ n x e h q.
           let m = motorAt v x in
-          rw (read (Ask x AskStatus) (questionText (headOf v .mode) x m AskStatus) q refl refl refl, status-letter reply (headOf v .mode) x m, kept 0 (Mode n) n refl e refl h);
+          rw (read (Ask x AskStatus) (questionText (headOf v .mode) x m AskStatus) (in-form v line _ q refl) refl refl refl, status-letter reply (headOf v .mode) x m, kept 0 (Mode n) n refl e refl h);
+      modeFree = λ n e h q.
+          rw (read (AskHead AskFree) (headText (headOf v) AskFree) q refl refl refl, free-letter reply (headOf v), kept 0 (Mode n) n refl e refl h);
     }
   where
     t : List ℕ
@@ -253,7 +260,7 @@ reads-back b ks k later line reply enough =
     sound : soundTable u ≡ true
     sound = next t k start .sound
 
-    read : (o : Order) (text : List ℕ) → orderOf line ≡ Is o → judge v o ≡ Done → changed v o ≡ v → answer v o ≡ text
+    read : (o : Order) (text : List ℕ) → orderIn v line ≡ Is o → judge v o ≡ Done → changed v o ≡ v → answer v o ≡ text
         → after urqolina v (command line reply) ≡ record { result = 256 * length text; table = v; buffer = put reply 0 text }
     read o text q j c a = asked v line reply o text (run-sound u later sound) enough q j c a
 

@@ -90,5 +90,5 @@ run-same c on t (k ∷ ks) m s p =
 pub settled-so : (b : Beginning) (c : ℕ) → c ≤ 15 → (ks : List Call) → Settled urqolina b c ks
 settled-so b c on ks =
     let p : SameSettings (settings urqolina c (fromFresh urqolina b) freshMotor ks) (motorAt (ran urqolina b ks) c) =
-    rw (made-fresh b) (run-same c on freshTable ks freshMotor fresh-sound (rw (fresh-motor c on) (search))) in
+    rw (made-fresh b) (run-same c on (freshTable (b .card)) ks freshMotor (fresh-sound (b .card) (b .known)) (rw (fresh-motor (b .card) c on) (search))) in
     record { limits = p .limits; speeds = p .speeds; wiring = p .wiring; setup = p .setup }

@@ -15,9 +15,8 @@ use Rattle.line.specs.declared.Order.{Order}
 use Rattle.line.specs.declared.Order.the-variants.{Go, Stop, StopAll, ChangeSpeed, Set, Ask, AskHead, ForHead}
 use Rattle.line.specs.declared.Parsed.{Parsed}
 use Rattle.line.specs.declared.Parsed.the-variants.{Is, Nothing}
-use Rattle.line.specs.Forms.{orderOf}
 use Rattle.commands.specs.Judging.{judge}
-use Rattle.obeying.specs.Taking.{accepted}
+use Rattle.obeying.specs.Taking.{accepted, orderIn}
 use Rattle.laws.specs.Sequences.{Call, command, reading, tick}
 
 -- the verdict on what a line is: "1 | .. | the line has none of the forms above", or what the rules judge
@@ -32,7 +31,7 @@ orderPassed t Nothing = Nothing
 
 -- the order that a call carries out: none with a "reply buffer under 32", and none but a command's
 unfoldable pub orderTaken : List ℕ → Call → Parsed
-orderTaken t (command line reply) = cond (leb 32 (length reply)) (orderPassed t (orderOf line)) Nothing
+orderTaken t (command line reply) = cond (leb 32 (length reply)) (orderPassed t (orderIn t line)) Nothing
 orderTaken t (reading x n) = Nothing
 orderTaken t (tick p) = Nothing
 

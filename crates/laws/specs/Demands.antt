@@ -9,7 +9,7 @@ use Rattle.laws.specs.Sequences.{Library, Call, Beginning}
 use Rattle.laws.specs.Numbers.{Numbers, Replies, Changes}
 use Rattle.laws.specs.Neighbours.{Neighbours}
 use Rattle.laws.specs.ReadBack.{ReadsBack}
-use Rattle.laws.specs.Pulses.{Lasting, Demand3, Settled, LastTick}
+use Rattle.laws.specs.Pulses.{Lasting, Demand3, Settled, Shared, LastTick}
 use Rattle.laws.specs.Contacts.{Contacts}
 
 pub record Demands (l : Library) : Type 0 where
@@ -31,5 +31,7 @@ pub record Demands (l : Library) : Type 0 where
   -- table", of each channel
   pub lasting : Lasting l
   pub pulses : (b : Beginning) (c : ℕ) → c ≤ 15 → (ks : List Call) → Demand3 l b c ks
+  -- and of all of them, by the number that may be busy on the card (02 §7)
+  pub shared : (b : Beginning) (ks : List Call) → Shared l b ks
   -- "A drive to a target at distance D and speed v .. ends at tick D·1000/v rounded up", counted from its release
   pub lastTick : (b : Beginning) (c : ℕ) → c ≤ 15 → (ks : List Call) (p : ℕ) (later : List Call) → LastTick l b c ks p later

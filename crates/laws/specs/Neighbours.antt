@@ -63,6 +63,8 @@ pub record Neighbours (l : Library) : Type 0 where
   pub head : (t line reply : List ℕ) (o : Order) → orderOf line ≡ Is o → ofHead o ≡ false → l .command t line reply .result % 256 ≡ 0
       → HeadLeft t (l .command t line reply .table)
   pub headLeft : (t : List ℕ) (k : Call) → isCommand k ≡ false → HeadLeft t (after l t k .table)
+  -- 02 §7: the card is "set when the table is made fresh", and no call writes it
+  pub card : (t : List ℕ) (k : Call) → headOf (after l t k .table) .card ≡ headOf t .card
   -- an order of the head leaves the busy set
   pub headSet : (t line reply : List ℕ) (o : Order) → orderOf line ≡ Is o → ofHead o ≡ true
       → headOf (l .command t line reply .table) .busy ≡ headOf t .busy

@@ -19,6 +19,7 @@ use Rattle.replies.specs.Replies.{echo, questionText, headText}
 use Rattle.table.specs.Layout.{tableSize, headOf, motorAt, withMotor, withMotors, freshTable}
 use Rattle.table.specs.Sound.{soundTable}
 use Rattle.commands.specs.Judging.{judge}
+use Rattle.obeying.specs.Taking.{orderIn}
 use Rattle.commands.specs.Changing.{changed, flagged}
 use Rattle.urqolina.specs.Calls.{counts}
 use Rattle.laws.specs.Sequences.{Library, Call, command, reading, tick, after}
@@ -57,21 +58,21 @@ starting (ForHead h) = false
 -- Demands 1 and 2, the numbers, on any table whatever it holds. "The command's result is the number plus 256 times the reply
 -- length"; a reading's and a tick's is the number.
 pub record Numbers (l : Library) : Type 0 where
-  -- "fresh gives only 0 or 5"
-  pub freshMade : (b : List ℕ) → length b ≡ tableSize → l .fresh b ≡ record { result = 0; table = freshTable }
-  pub freshRefused : (b : List ℕ) → (length b ≡ tableSize → ⊥) → l .fresh b ≡ record { result = 5; table = b }
+  -- "fresh gives only 0 or 5"; 02 §7: the card is "set when the table is made fresh", "a card number over 1 at fresh is 5"
+  pub freshMade : (b : List ℕ) (card : ℕ) → length b ≡ tableSize → card ≤ 1 → l .fresh b card ≡ record { result = 0; table = freshTable card }
+  pub freshRefused : (b : List ℕ) (card : ℕ) → ((length b ≡ tableSize) × (card ≤ 1) → ⊥) → l .fresh b card ≡ record { result = 5; table = b }
   -- "Order: 5, 6, ..": they come first, and "change nothing anywhere". "A refused tick (5 or 6) .. gives no pulse".
   pub sizes : (t : List ℕ) (k : Call) → sizesRight t k ≡ false → after l t k ≡ record { result = 5; table = t; buffer = lent k }
   pub unsound : (t : List ℕ) (k : Call) → sizesRight t k ≡ true → soundTable t ≡ false → after l t k ≡ record { result = 6; table = t; buffer = lent k }
-  -- "1, local mode, value, busy, target out of range .., the other causes of 4", which are split (02 §5): what the rules judge
-  pub formless : (t line reply : List ℕ) → sizesRight t (command line reply) ≡ true → soundTable t ≡ true → orderOf line ≡ Nothing
+  -- the table's card decides which lines have a form (02 §7): "1, local mode, value, busy, target out of range .., the other causes of 4", which are split (02 §5): what the rules judge
+  pub formless : (t line reply : List ℕ) → sizesRight t (command line reply) ≡ true → soundTable t ≡ true → orderIn t line ≡ Nothing
       → l .command t line reply .result % 256 ≡ 1
-  pub judged : (t line reply : List ℕ) (o : Order) → sizesRight t (command line reply) ≡ true → soundTable t ≡ true → orderOf line ≡ Is o
+  pub judged : (t line reply : List ℕ) (o : Order) → sizesRight t (command line reply) ≡ true → soundTable t ≡ true → orderIn t line ≡ Is o
       → l .command t line reply .result % 256 ≡ numberOf (judge t o)
   -- a reading and a tick have nothing more to refuse
   pub done : (t : List ℕ) (k : Call) → isCommand k ≡ false → sizesRight t k ≡ true → soundTable t ≡ true → after l t k .result ≡ 0
-  -- 02 §5: "8 to 12 for starts only"; "4 is no longer given", by any call
-  pub starts : (t line reply : List ℕ) (n : ℕ) → 8 ≤ n → n ≤ 12 → l .command t line reply .result % 256 ≡ n → isSome starting (orderOf line) ≡ true
+  -- 02 §5: "8 to 12 for starts only", and 02 §7: "a fifth start is 14"; "4 is no longer given", by any call
+  pub starts : (t line reply : List ℕ) (n : ℕ) → 8 ≤ n → (n ≡ 13 → ⊥) → l .command t line reply .result % 256 ≡ n → isSome starting (orderOf line) ≡ true
   pub split : (t : List ℕ) (k : Call) → after l t k .result % 256 ≡ 4 → ⊥
   -- "Numbers 1 to 4 set error flag bits 0 to 3 in turn and change nothing else in the table": 1, 2, 3 and, by 02 §5, those from 7 on
   pub flags : (t line reply : List ℕ) (n : ℕ) → isRefusal n ≡ true → l .command t line reply .result % 256 ≡ n
@@ -100,18 +101,18 @@ module _ (l : Library) (t line reply : List ℕ) (sound : soundTable t ≡ true)
     -- "A read's reply is always written": its text from the table, which it leaves
     pub reads : (x : ℕ) (q : Question) → orderOf line ≡ Is (Ask x q) → let text = questionText (headOf t .mode) x (motorAt t x) q in
         after l t (command line reply) ≡ record { result = 256 * length text; table = t; buffer = put reply 0 text }
-    pub headReads : (q : HeadQuestion) → orderOf line ≡ Is (AskHead q) → let text = headText (headOf t) q in
+    pub headReads : (q : HeadQuestion) → orderIn t line ≡ Is (AskHead q) → let text = headText (headOf t) q in
         after l t (command line reply) ≡ record { result = 256 * length text; table = t; buffer = put reply 0 text }
     -- "Other commands, and numbers 1 to 4, write their text if all-reply is on after the command, else nothing. Bytes past the reply
     -- stay as they were." 4 "reads as the split numbers" (02 §5).
-    pub others : isSome asks (orderOf line) ≡ false
-        → let a = after l t (command line reply) in let text = echo (headOf (a .table) .reply) (verdict t (orderOf line)) in
-        (a .result ≡ numberOf (verdict t (orderOf line)) + 256 * length text) × (a .buffer ≡ put reply 0 text)
+    pub others : isSome asks (orderIn t line) ≡ false
+        → let a = after l t (command line reply) in let text = echo (headOf (a .table) .reply) (verdict t (orderIn t line)) in
+        (a .result ≡ numberOf (verdict t (orderIn t line)) + 256 * length text) × (a .buffer ≡ put reply 0 text)
 
 -- Demand 2, what an accepted call changes, on any sound table
 pub record Changes (l : Library) : Type 0 where
   -- "what each changes": the table after an order that the rules accept
-  pub orders : (t line reply : List ℕ) (o : Order) → sizesRight t (command line reply) ≡ true → soundTable t ≡ true → orderOf line ≡ Is o
+  pub orders : (t line reply : List ℕ) (o : Order) → sizesRight t (command line reply) ≡ true → soundTable t ≡ true → orderIn t line ≡ Is o
       → numberOf (judge t o) ≡ 0 → l .command t line reply .table ≡ changed t o
   -- "A switch reading replaces the contacts", and may end the drive
   pub readings : (t : List ℕ) (c n : ℕ) → sizesRight t (reading c n) ≡ true → soundTable t ≡ true

@@ -1,21 +1,32 @@
 -- Demand 3, over any sequence of calls after a fresh one, and when a drive ends.
 use mathlib.Core.Path.{_≡_}
-use mathlib.Core.List.{List}
-use mathlib.Core.Bool.{Bool, true, false, not}
-use Prim.Native.Nat.{ℕ, _+_, _*_, _%_, _≤_, _<_}
+use mathlib.Core.List.{List, [], _∷_}
+use mathlib.Core.Bool.{Bool, true, false, not, cond}
+use Prim.Native.Nat.{ℕ, _+_, _*_, _-_, _%_, _≤_, _<_}
 use lib.ListN.{length}
+use lib.Dec.{eqb}
+use Rattle.digits.specs.Bytes.{put}
+use Rattle.digits.specs.Words.{howMany, bitsSet}
 use Rattle.digits.specs.Places.{ahead}
 use Rattle.record.specs.declared.Motor.{Motor}
 use Rattle.record.specs.Record.{freshMotor, letGo}
 use Rattle.motor.specs.Switches.{room, blocked}
 use Rattle.motor.specs.Sound.{busy, moving}
+use Rattle.text.specs.Text.{digitByte}
 use Rattle.drive.specs.declared.Course.the-variants.{To}
+use Rattle.drive.specs.declared.Verdict.the-variants.{Done}
 use Rattle.drive.specs.Drives.{lsend}
 use Rattle.pulses.specs.Ticks.{roundedUp, toTarget, distanceLeft, roomLeft}
 use Rattle.line.specs.declared.Start.{Start}
-use Rattle.table.specs.Layout.{headOf, paused, motorAt}
+use Rattle.line.specs.declared.HeadQuestion.the-variants.{AskFree}
+use Rattle.line.specs.declared.Order.the-variants.{Go, AskHead}
+use Rattle.line.specs.declared.Parsed.the-variants.{Is}
+use Rattle.line.specs.Forms.{orderOf}
+use Rattle.status.specs.Status.{modeLetter}
+use Rattle.table.specs.Layout.{headOf, paused, mostBusy, motorAt}
+use Rattle.commands.specs.Judging.{judgeWhere}
 use Rattle.table.specs.Sound.{soundTable}
-use Rattle.laws.specs.Sequences.{Library, Call, tick, after, run, Beginning, fromFresh, ran, never}
+use Rattle.laws.specs.Sequences.{Library, Call, command, tick, after, run, Beginning, fromFresh, ran, never}
 use Rattle.laws.specs.Deeds.{Deed, starts, stops, speeds, sets, reads, ticks, pauses, rests, deed}
 use Rattle.laws.specs.Neighbours.{listed}
 use Rattle.laws.specs.Ledger.{countAt, cwPulses, ccwPulses, against, Account, noDrive, takesTicks, setsOff, courseIn, account, ticksIn, Travel, noTravel, travel, settings}
@@ -102,6 +113,33 @@ module _ (l : Library) (b : Beginning) (c : ℕ) (ks : List Call) where
     pub speeds : motorNow .speeds ≡ settingsNow .speeds
     pub wiring : motorNow .wiring ≡ settingsNow .wiring
     pub setup : motorNow .setup ≡ settingsNow .setup
+
+-- 02 §7: "Prove demand 3 once over the largest number of busy motors". After the beginning b and the calls ks:
+module _ (l : Library) (b : Beginning) (ks : List Call) where
+  -- that number, by the card that the sequence began with
+  abbrev pub most : ℕ
+  most = mostBusy (b .card)
+
+  -- how many channels have a drive that lasts, held or moving, counted by their accounts
+  abbrev pub driving : ℕ
+  driving = howMany (λ c. accountNow l b c ks .lasts) 16
+
+  pub record Shared : Type 0 where
+    -- "runs at most four motors"
+    pub few : driving ≤ most
+    -- "decides whether a start is taken": one that passes every other check, and sets its channel off, is 14 exactly where so many have a
+    -- drive, and else it is taken
+    pub gate : (line reply : List ℕ) (x : ℕ) (s : Start) → 32 ≤ length reply → orderOf line ≡ Is (Go x s) → judgeWhere false (ran l b ks) (Go x s) ≡ Done
+        → setsOff (motorAt (ran l b ks) x) s ≡ true → l .command (ran l b ks) line reply .result % 256 ≡ cond (eqb driving most) 14 0
+    -- "`STQ?` .. answers R or L and four less that number. On the sixteen card it is 1"
+    pub free : (line reply : List ℕ) → 32 ≤ length reply → orderOf line ≡ Is (AskHead AskFree) → b .card ≡ 1
+        → let text = modeLetter (headOf (ran l b ks) .mode) ∷ digitByte (4 - driving) ∷ [] in
+        after l (ran l b ks) (command line reply) ≡ record { result = 512; table = ran l b ks; buffer = put reply 0 text }
+    pub formless : (line reply : List ℕ) → 32 ≤ length reply → orderOf line ≡ Is (AskHead AskFree) → b .card ≡ 0
+        → l .command (ran l b ks) line reply .result % 256 ≡ 1
+    -- "the number of set bits in the busy word": the word that the head holds agrees, and so does its card
+    pub word : bitsSet (headOf (ran l b ks) .busy) ≡ driving
+    pub card : headOf (ran l b ks) .card ≡ b .card
 
 -- "A drive to a target at distance D and speed v, with no stop, SPC or switch reading on its channel and D within room, ends at
 -- tick D·1000/v rounded up." A deed that disturbs it so:

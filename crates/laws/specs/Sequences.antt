@@ -1,7 +1,7 @@
 -- Sequences of calls: "For any sequence of commands, readings and ticks after a fresh table, refused ones included, where
 -- nothing else writes to the table". A sequence is a list of calls, each with all that it is lent, of any length and content;
 -- the table goes from one call to the next.
-use Prim.Native.Nat.{ℕ}
+use Prim.Native.Nat.{ℕ, _≤_}
 use mathlib.Core.List.{List, [], _∷_}
 use mathlib.Core.Bool.{Bool, true, _&&_, not}
 use mathlib.Core.Path.{_≡_}
@@ -13,7 +13,7 @@ use Rattle.urqolina.specs.Calls.{TableAfter, TickAfter, freshCall, commandCall,
 -- the four calls of a library, as functions of all that they are lent. The demands are stated of any library, so that one can
 -- ask which libraries they refuse.
 pub record Library : Type 0 where
-  pub fresh : List ℕ → TableAfter
+  pub fresh : List ℕ → ℕ → TableAfter
   pub command : List ℕ → List ℕ → List ℕ → CommandAfter
   pub reading : List ℕ → ℕ → ℕ → TableAfter
   pub tick : List ℕ → List ℕ → TickAfter
@@ -54,14 +54,16 @@ unfoldable pub run : Library → List ℕ → List Call → List ℕ
 run l t [] = t
 run l t (k ∷ ks) = run l (after l t k .table) ks
 
--- how a sequence begins: with a fresh call that is lent a table's bytes, whatever they hold
+-- how a sequence begins: with a fresh call that is lent a table's bytes, whatever they hold, and told one of the cards (02 §7)
 pub record Beginning : Type 0 where
   pub bytes : List ℕ
   pub whole : length bytes ≡ tableSize
+  pub card : ℕ
+  pub known : card ≤ 1
 
 -- the table that this call leaves
 abbrev pub fromFresh : Library → Beginning → List ℕ
-fromFresh l b = l .fresh (b .bytes) .table
+fromFresh l b = l .fresh (b .bytes) (b .card) .table
 
 -- "after a fresh table": the table after such a beginning and a sequence of calls
 abbrev pub ran : Library → Beginning → List Call → List ℕ

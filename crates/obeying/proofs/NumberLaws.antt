@@ -5,6 +5,7 @@ use mathlib.Core.Bool.{Bool, true, false, _&&_, _||_, not, cond, false≢true}
 use Prim.Native.Nat.{ℕ, _%_}
 use native.Mathlib.Omega.{arith}
 use lib.Dec.{eqb}
+use borrow.Author.Tests.{eq-eqb}
 use Rattle.record.specs.declared.Motor.{Motor}
 use Rattle.motor.specs.Switches.{unread, blocked, room}
 use Rattle.motor.specs.Sound.{busy}
@@ -19,6 +20,7 @@ use Rattle.line.specs.declared.Order.{Order}
 use Rattle.line.specs.declared.Order.the-variants.{Go, Stop, StopAll, ChangeSpeed, Set, Ask, AskHead, ForHead}
 use Rattle.line.specs.declared.Parsed.{Parsed}
 use Rattle.line.specs.declared.Parsed.the-variants.{Is, Nothing}
+use Rattle.line.specs.Forms.{hasForm, onCard}
 use Rattle.table.specs.Layout.{headOf, full, motorAt}
 use Rattle.orders.specs.Values.{needsRemote, valueInRange}
 use Rattle.orders.specs.Settings.{courseOf}
@@ -97,6 +99,28 @@ refused-judged t o e = go (eqb (numberOf (judge t o)) 0) (isRefusal (numberOf (j
     go : (done refused : Bool) → done ≡ false → (done || refused) ≡ true → refused ≡ true
     go true refused e h = absurd (false≢true (sym e))
     go false refused e h = h
+
+-- Where an order is judged with its form: it is done where the card has the form and the rules accept it, and else it is refused.
+pub formed-judged : (b : Bool) (v : Verdict) → numberOf (cond b v NoForm) ≡ 0 → (b ≡ true) × (numberOf v ≡ 0)
+unfolding numberOf
+formed-judged true v e = (refl, e)
+formed-judged false v e = absurd (omega (arith, e))
+
+pub formed-obeyed : (t : List ℕ) (o : Order) (reply : List ℕ) → numberOf (cond (hasForm (headOf t .card) o) (judge t o) NoForm) ≡ 0
+    → taken t (onCard (headOf t .card) (Is o)) reply ≡ obeyed t o reply
+unfolding taken
+formed-obeyed t o reply e =
+    let f = formed-judged (hasForm (headOf t .card) o) (judge t o) e in
+    rw (f .0, eq-eqb (numberOf (judge t o)) 0 (f .1))
+
+pub formed-refused : (t : List ℕ) (o : Order) (reply : List ℕ)
+    → let v = cond (hasForm (headOf t .card) o) (judge t o) NoForm in eqb (numberOf v) 0 ≡ false → taken t (onCard (headOf t .card) (Is o)) reply ≡ refused t v reply
+unfolding taken
+formed-refused t o reply = go (hasForm (headOf t .card) o)
+  where
+    go : (b : Bool) → let v = cond b (judge t o) NoForm in eqb (numberOf v) 0 ≡ false → taken t (cond b (Is o) Nothing) reply ≡ refused t v reply
+    go true e = rw e
+    go false e = refl
 
 -- "The command's result is the number plus 256 times the reply length."
 pub refused-number : (t : List ℕ) (v : Verdict) (reply : List ℕ) → refused t v reply .result % 256 ≡ numberOf v

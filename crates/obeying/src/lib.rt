@@ -17,18 +17,19 @@ use replies::write_question;
 use table::head::read_head;
 use table::motor_at;
 ghost use mathlib.Core.Path.{_≡_};
-ghost use mathlib.Core.Bool.{true};
+ghost use mathlib.Core.Bool.{true, cond};
 ghost use Prim.Native.Nat.{_+_, _*_, _≤_};
 ghost use lib.ListN.{length};
 ghost use Rattle.drive.specs.Numbers.{numberOf};
-ghost use Rattle.drive.specs.declared.Verdict.the-variants.{Done};
+ghost use Rattle.drive.specs.declared.Verdict.the-variants.{Done, NoForm};
 ghost use Rattle.line.specs.declared.Order.the-variants.{Ask, AskHead};
 ghost use Rattle.line.specs.declared.Parsed.the-variants.{Is};
-ghost use Rattle.line.specs.Forms.{onCard};
+ghost use Rattle.line.specs.Forms.{hasForm, onCard};
 ghost use Rattle.line.specs.Made.{orderMade, parsedMade};
 ghost use Rattle.orders.specs.Values.{valueInRange};
-ghost use Rattle.table.specs.Layout.{headOf};
+ghost use Rattle.table.specs.Layout.{tableSize, headOf};
 ghost use Rattle.table.specs.Sound.{soundTable};
+ghost use Rattle.commands.specs.Judging.{judge};
 ghost use Rattle.commands.specs.Changing.{changed};
 ghost use Rattle.commands.specs.Answers.{told};
 ghost use Rattle.obeying.specs.Taking.{replied, refused, obeyed, taken};
@@ -94,29 +95,29 @@ fn obey(t: &mut [u8], o: Order, reply: &mut [u8]) -> u32
     }
 }
 
+// The verdict of an order on a table whose card may not have its form.
+fn judge_line(t: &[u8], o: Order) -> Verdict
+    requires { ⌜ (length (now t) ≡ tableSize) × (orderMade o ≡ true) ⌝ }
+    ensures { λ r. ⌜ r ≡ cond (hasForm (headOf (now (t .entry)) .card) o) (judge (now (t .entry)) o) NoForm ⌝ }
+{
+    let h = read_head(t);
+    if has_form(h.card, o) {
+        judge_order(t, o)
+    } else {
+        Verdict::NoForm
+    }
+}
+
 // Judges an order, and obeys or refuses it.
 fn take_order(t: &mut [u8], o: Order, reply: &mut [u8]) -> u32
     requires { ⌜ (soundTable (now t) ≡ true) × (32 ≤ length (now reply)) × (orderMade o ≡ true) ⌝ }
-    ensures { λ r. ⌜ record { result = r; table = now (t .exit); reply = now (reply .exit) } ≡ taken (now (t .entry)) (Is o) (now (reply .entry)) ⌝ }
+    ensures { λ r. ⌜ record { result = r; table = now (t .exit); reply = now (reply .exit) } ≡ taken (now (t .entry)) (onCard (headOf (now (t .entry)) .card) (Is o)) (now (reply .entry)) ⌝ }
 {
-    let v = judge_order(t, o);
+    let v = judge_line(t, o);
     if number_of(v) == 0 {
         obey(t, o, reply)
     } else {
         refuse(t, v, reply)
-    }
-}
-
-// Takes an order if the table's card has its form.
-fn take_form(t: &mut [u8], o: Order, reply: &mut [u8]) -> u32
-    requires { ⌜ (soundTable (now t) ≡ true) × (32 ≤ length (now reply)) × (orderMade o ≡ true) ⌝ }
-    ensures { λ r. ⌜ record { result = r; table = now (t .exit); reply = now (reply .exit) } ≡ taken (now (t .entry)) (onCard (headOf (now (t .entry)) .card) (Is o)) (now (reply .entry)) ⌝ }
-{
-    let h = read_head(t);
-    if has_form(h.card, o) {
-        take_order(t, o, reply)
-    } else {
-        refuse(t, Verdict::NoForm, reply)
     }
 }
 
@@ -126,7 +127,7 @@ pub fn take_line(t: &mut [u8], p: Parsed, reply: &mut [u8]) -> u32
     ensures { λ r. ⌜ record { result = r; table = now (t .exit); reply = now (reply .exit) } ≡ taken (now (t .entry)) (onCard (headOf (now (t .entry)) .card) p) (now (reply .entry)) ⌝ }
 {
     match p {
-        Parsed::Is(o) => take_form(t, o, reply),
+        Parsed::Is(o) => take_order(t, o, reply),
         Parsed::Nothing => refuse(t, Verdict::NoForm, reply),
     }
 }

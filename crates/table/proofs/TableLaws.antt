@@ -7,21 +7,32 @@ use Prim.Native.Nat.{ℕ, suc, _+_, _*_, _≤_, _<_}
 use native.Mathlib.Numerals.{add-one}
 use native.Mathlib.Omega.{arith}
 use lib.ListN.{length, take, drop, length-append, length-take, length-drop, take-append-drop, drop-of-length-le}
-use lib.Dec.{eqb}
+use lib.Dec.{eqb, leb}
 use lib.Seq.{drop-drop, drop-at}
-use borrow.Author.Tests.{eqb-true, eq-eqb}
+use borrow.Author.Tests.{eqb-true, eq-eqb, leb-true}
 use Rattle.digits.specs.Bytes.{AllBytes, part, pieces, every}
-use Rattle.digits.specs.Words.{isSet}
+use Rattle.digits.specs.Words.{isSet, bitsSet}
+use Rattle.digits.proofs.CountLaws.{in-all, all-in}
 use Rattle.record.specs.declared.Motor.{Motor}
 use Rattle.record.specs.Record.{motorOf, recordOf, freshMotor}
 use Rattle.record.proofs.RoundTrip.{record-length}
 use Rattle.motor.specs.Sound.{busy, soundMotor, soundRecord, heldRight, soundUnder}
-use Rattle.motor.proofs.SoundLaws.{and-l, and-r}
+use Rattle.motor.proofs.SoundLaws.{and-l, and-r, both-ways}
 use Rattle.motor.proofs.RecordLaws.{record-motor-sound, under-record, under-held}
 use Rattle.table.specs.Layout.{tableSize, headOf, paused, recordStart, recordAt, records, motorAt, busySet, sealed, withRecord, withMotor, withMotors, freshTable}
 use Rattle.table.specs.Sound.{soundHead, soundTable}
 use Rattle.table.proofs.SealLaws.{placed-length, set-at, sealed-length, sealed-after, sealed-again, sealed-over, true-sealed}
 use Rattle.table.proofs.PieceLaws.{every-each, each-every, flat-more, flat-length, gather-length, put-next}
+
+-- Sixteen bits are all set in one number alone.
+pub all-busy : (n : ℕ) → n < 65536 → eqb n 65535 ≡ leb 16 (bitsSet n)
+all-busy n h = both-ways (eqb n 65535) (leb 16 (bitsSet n)) there back
+  where
+    there : eqb n 65535 ≡ true → leb 16 (bitsSet n) ≡ true
+    there e = rw (all-in 16 n (eqb-true n 65535 e))
+
+    back : leb 16 (bitsSet n) ≡ true → eqb n 65535 ≡ true
+    back e = eq-eqb n 65535 (in-all 16 n h (leb-true 16 (bitsSet n) e))
 
 -- A write into the table keeps its length.
 pub motor-length : (t : List ℕ) (c : ℕ) (m : Motor) → length t ≡ tableSize → c ≤ 15 → length (withMotor t c m) ≡ tableSize

@@ -93,11 +93,11 @@ fn most_busy(card: u8) -> u32
     if card == 1 { 4 } else { 16 }
 }
 
-// Whether as many motors are busy as the card lets, so that no start is taken.
+// Whether as many motors are busy as the card lets, so that no start is taken. Those of the sixteen-motor card need not be counted.
 pub fn is_full(h: Head) -> bool
     ensures { λ r. ⌜ r ≡ full h ⌝ }
 {
-    most_busy(h.card) <= count(h.busy)
+    if h.card == 0 { h.busy == 65535 } else { most_busy(h.card) <= count(h.busy) }
 }
 
 // The head with one field set, and the others as they were.

@@ -7,8 +7,8 @@ use Rattle.obeying.proofs.take_line.Tie as tie
 enum-known-p : tie.Need-enum-known-p
 enum-known-p c = search needs
 
-take-form-requires : tie.Need-take-form-requires
-take-form-requires c κs = let a = c .before .before .before .before .before .before .before in (a .pre .0, a .pre .1, rw (c .before .before .before .p .given .1) at (a .pre .2))
+take-order-requires : tie.Need-take-order-requires
+take-order-requires c κs = let a = c .before .before .before .before .before .before .before in (a .pre .0, a .pre .1, rw (c .before .before .before .p .given .1) at (a .pre .2))
 
 enum-told : tie.Need-enum-told
 enum-told c = search needs
@@ -23,7 +23,7 @@ same-length-2 : tie.Need-same-length-2
 same-length-2 c = search needs
 
 returns : tie.Need-returns
-returns c = rw (c .before .before .before .before .before .before .before .before .p .given .1) (c .before .before .before .before .take-form .ensures)
+returns c = rw (c .before .before .before .before .before .before .before .before .p .given .1) (c .before .before .before .before .take-order .ensures)
 
 same-length-3 : tie.Need-same-length-3
 same-length-3 c = search needs
@@ -40,7 +40,7 @@ take-line-spec =
     tie.close
     (tie.spec
     enum-known-p
-    take-form-requires
+    take-order-requires
     enum-told
     refuse-requires
     same-length
