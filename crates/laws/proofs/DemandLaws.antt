@@ -10,6 +10,7 @@ use Rattle.laws.proofs.SettledLaws.{settled-so}
 use Rattle.laws.proofs.ContactLaws.{contacts-so}
 use Rattle.laws.proofs.LastingLaws.{lasting}
 use Rattle.laws.proofs.PulseLaws.{demand-3}
+use Rattle.laws.proofs.SharedLaws.{shared-so}
 use Rattle.laws.proofs.LastTickLaws.{last-tick}
 
 pub demands : Demands urqolina
@@ -24,5 +25,6 @@ demands =
       contacts = contacts-so;
       lasting = lasting;
       pulses = demand-3;
+      shared = shared-so;
       lastTick = last-tick;
     }

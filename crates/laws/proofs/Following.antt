@@ -51,23 +51,27 @@ use Rattle.laws.proofs.BusyLaws.{isStart, stays-idle}
 use Rattle.laws.proofs.CallWays.{sound-ways}
 use Rattle.laws.proofs.DeedLaws.{performed, pausedIn, pausedBy, Fits, fits-start, fits-stop, fits-speed, fits-set, fits-read, fits-tick, fits-pause, fits-rest, performed-sound, performed-right, performed-free}
 
--- what an order has passed when it is accepted
-pub record Passed (t : List ℕ) (o : Order) : Type 0 where
+-- what an order has passed when it is accepted, on a card that is full or not
+pub record Passed (f : Bool) (t : List ℕ) (o : Order) : Type 0 where
   pub remote : (needsRemote o && eqb (headOf t .mode) 0) ≡ false
   pub value : valueInRange o ≡ true
   pub free : meetsBusy t o ≡ false
-  pub motor : judgeMotor (full (headOf t)) t o ≡ Done
+  pub motor : judgeMotor f t o ≡ Done
 
-pub passed : (t : List ℕ) (o : Order) → numberOf (judge t o) ≡ 0 → Passed t o
-unfolding judge judgeWhere numberOf
-passed t o = go (needsRemote o && eqb (headOf t .mode) 0) refl (valueInRange o) refl (meetsBusy t o) refl
+pub passed-where : (f : Bool) (t : List ℕ) (o : Order) → numberOf (judgeWhere f t o) ≡ 0 → Passed f t o
+unfolding judgeWhere numberOf
+passed-where f t o = go (needsRemote o && eqb (headOf t .mode) 0) refl (valueInRange o) refl (meetsBusy t o) refl
   where
     go : (r : Bool) → (needsRemote o && eqb (headOf t .mode) 0) ≡ r → (v : Bool) → valueInRange o ≡ v → (b : Bool) → meetsBusy t o ≡ b
-        → numberOf (cond r LocalMode (cond (not v) OutOfRange (cond b Busy (judgeMotor (full (headOf t)) t o)))) ≡ 0 → Passed t o
+        → numberOf (cond r LocalMode (cond (not v) OutOfRange (cond b Busy (judgeMotor f t o)))) ≡ 0 → Passed f t o
     go true r v ev b eb e = absurd (omega (arith, e))
     go false r false v b eb e = absurd (omega (arith, e))
     go false r true v true b e = absurd (omega (arith, e))
-    go false r true v false b e = record { remote = r; value = v; free = b; motor = numbered (judgeMotor (full (headOf t)) t o) .done e }
+    go false r true v false b e = record { remote = r; value = v; free = b; motor = numbered (judgeMotor f t o) .done e }
+
+passed : (t : List ℕ) (o : Order) → numberOf (judge t o) ≡ 0 → Passed (full (headOf t)) t o
+unfolding judge
+passed t o e = passed-where (full (headOf t)) t o e
 
 -- A course of a start that a line makes is well aimed.
 start-aimed : (m : Motor) (s : Start) → startMade s ≡ true → wellAimed m (courseOf m s) ≡ true

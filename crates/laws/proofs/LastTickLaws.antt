@@ -89,7 +89,7 @@ module _ (c : ℕ) (on : c ≤ 15) (r : Motor) (free : r .drive .held ≡ false)
       drives = sym (released-busy m) ∙ rw e (lasts n h)
 
       go : (d : Deed) → disturbs d ≡ false → u ≡ performed (pausedIn t) m d → Fits m d → released u ≡ ticks (oneMore (isTick d && a .counting) n) r
-      go (D.starts st) q w (fits-start _ still j x y) = absurd (false≢true (sym still ∙ drives))
+      go (D.starts st) q w (fits-start _ _ still j x y) = absurd (false≢true (sym still ∙ drives))
       go (D.stops flags) q w f = absurd (false≢true (sym q))
       go (D.speeds v) q w f = absurd (false≢true (sym q))
       go (D.sets st) q w (fits-set _ still j x) = absurd (false≢true (sym still ∙ drives))

@@ -16,5 +16,6 @@ pub mod AnswerLaws
 pub mod SettledLaws
 pub mod ContactLaws
 pub mod ChangeLaws
+pub mod SharedLaws
 pub mod DemandLaws
 pub mod OneLibrary

@@ -284,7 +284,7 @@ module _ (b : Beginning) (c : ℕ) (on : c ≤ 15) (ks : List Call) where
       u = motorAt (after urqolina t k .table) c
 
       go : (e : Deed) → deed c t k ≡ e → u ≡ performed (pausedIn t) m e → Fits m e → Ends urqolina b c ks k
-      go (D.starts st) e q (fits-start _ still j w r) = absurd (false≢true (sym still ∙ d))
+      go (D.starts st) e q (fits-start _ _ still j w r) = absurd (false≢true (sym still ∙ d))
       go (D.stops flags) e q f = byStop flags e (rw q (stop-so m flags o .1 d))
       go (D.speeds v) e q f = absurd (false≢true (sym (rw q at h) ∙ d))
       go (D.sets st) e q (fits-set _ still j w) = absurd (false≢true (sym still ∙ d))
