@@ -1,10 +1,12 @@
-// How an order is judged on a sound table: local mode, the value, busy, and then what lies in the motor.
+// How an order is judged on a sound table: whether the card has its form, local mode, the value, busy, what lies in the motor, and for a
+// start whether the card is full.
 
 use drive::Verdict;
 use drive::judge_speed_change;
 use drive::judge_start;
 use line::Order;
 use line::Start;
+use line::cards::has_form;
 use motor::is_busy;
 use orders::settings::course_of;
 use orders::values::needs_remote;
@@ -17,8 +19,9 @@ ghost use mathlib.Core.Path.{_≡_};
 ghost use mathlib.Core.Bool.{true, cond};
 ghost use lib.ListN.{length};
 ghost use Rattle.motor.specs.Sound.{busy};
-ghost use Rattle.drive.specs.declared.Verdict.the-variants.{Busy, Done};
+ghost use Rattle.drive.specs.declared.Verdict.the-variants.{Busy, Done, NoForm};
 ghost use Rattle.drive.specs.Drives.{judgeStart};
+ghost use Rattle.line.specs.Forms.{hasForm};
 ghost use Rattle.line.specs.Made.{orderMade};
 ghost use Rattle.orders.specs.Values.{startInRange, valueInRange};
 ghost use Rattle.orders.specs.Settings.{courseOf};
@@ -61,12 +64,15 @@ fn judge_channel(t: &[u8], o: Order) -> Verdict
     }
 }
 
-// The verdict of an order.
+// The verdict of an order: 1 where the table's card has not its form, and else by the rules.
 pub fn judge_order(t: &[u8], o: Order) -> Verdict
     requires { ⌜ (length (now t) ≡ tableSize) × (orderMade o ≡ true) ⌝ }
-    ensures { λ r. ⌜ r ≡ judge (now (t .entry)) o ⌝ }
+    ensures { λ r. ⌜ r ≡ cond (hasForm (headOf (now (t .entry)) .card) o) (judge (now (t .entry)) o) NoForm ⌝ }
 {
     let head = read_head(t);
+    if !has_form(head.card, o) {
+        return Verdict::NoForm;
+    }
     if needs_remote(o) & (head.mode == 0) {
         return Verdict::LocalMode;
     }

@@ -10,26 +10,24 @@ use line::HeadQuestion;
 use line::Order;
 use line::Parsed;
 use line::Question;
-use line::cards::has_form;
 use replies::write_echo;
 use replies::write_head_question;
 use replies::write_question;
 use table::head::read_head;
 use table::motor_at;
 ghost use mathlib.Core.Path.{_≡_};
-ghost use mathlib.Core.Bool.{true, cond};
+ghost use mathlib.Core.Bool.{true};
 ghost use Prim.Native.Nat.{_+_, _*_, _≤_};
 ghost use lib.ListN.{length};
 ghost use Rattle.drive.specs.Numbers.{numberOf};
-ghost use Rattle.drive.specs.declared.Verdict.the-variants.{Done, NoForm};
+ghost use Rattle.drive.specs.declared.Verdict.the-variants.{Done};
 ghost use Rattle.line.specs.declared.Order.the-variants.{Ask, AskHead};
 ghost use Rattle.line.specs.declared.Parsed.the-variants.{Is};
-ghost use Rattle.line.specs.Forms.{hasForm, onCard};
+ghost use Rattle.line.specs.Forms.{onCard};
 ghost use Rattle.line.specs.Made.{orderMade, parsedMade};
 ghost use Rattle.orders.specs.Values.{valueInRange};
-ghost use Rattle.table.specs.Layout.{tableSize, headOf};
+ghost use Rattle.table.specs.Layout.{headOf};
 ghost use Rattle.table.specs.Sound.{soundTable};
-ghost use Rattle.commands.specs.Judging.{judge};
 ghost use Rattle.commands.specs.Changing.{changed};
 ghost use Rattle.commands.specs.Answers.{told};
 ghost use Rattle.obeying.specs.Taking.{replied, refused, obeyed, taken};
@@ -95,25 +93,12 @@ fn obey(t: &mut [u8], o: Order, reply: &mut [u8]) -> u32
     }
 }
 
-// The verdict of an order on a table whose card may not have its form.
-fn judge_line(t: &[u8], o: Order) -> Verdict
-    requires { ⌜ (length (now t) ≡ tableSize) × (orderMade o ≡ true) ⌝ }
-    ensures { λ r. ⌜ r ≡ cond (hasForm (headOf (now (t .entry)) .card) o) (judge (now (t .entry)) o) NoForm ⌝ }
-{
-    let h = read_head(t);
-    if has_form(h.card, o) {
-        judge_order(t, o)
-    } else {
-        Verdict::NoForm
-    }
-}
-
 // Judges an order, and obeys or refuses it.
 fn take_order(t: &mut [u8], o: Order, reply: &mut [u8]) -> u32
     requires { ⌜ (soundTable (now t) ≡ true) × (32 ≤ length (now reply)) × (orderMade o ≡ true) ⌝ }
     ensures { λ r. ⌜ record { result = r; table = now (t .exit); reply = now (reply .exit) } ≡ taken (now (t .entry)) (onCard (headOf (now (t .entry)) .card) (Is o)) (now (reply .entry)) ⌝ }
 {
-    let v = judge_line(t, o);
+    let v = judge_order(t, o);
     if number_of(v) == 0 {
         obey(t, o, reply)
     } else {
