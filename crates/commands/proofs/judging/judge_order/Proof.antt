@@ -13,7 +13,7 @@ has-form-requires : tie.Need-has-form-requires
 has-form-requires c κs = search needs
 
 returns : tie.Need-returns
-returns c = rw (← c .before .before .read-head .ensures, ← c .before .has-form .ensures, not-true _ (c .if1 .taken))
+returns c = rw (← c .before .before .read-head .ensures, ← c .before .has-form .ensures, not-true (c .before .has-form .result) (c .if1 .taken))
 
 needs-remote-requires : tie.Need-needs-remote-requires
 needs-remote-requires c κs = search needs
@@ -23,7 +23,7 @@ unfolding judge judgeWhere
 returns-2 c =
     let r = c .before .before in
     let f = r .before in
-    rw (← f .before .before .read-head .ensures, ← f .before .has-form .ensures, not-false _ (f .if1 .left), ← r .needs-remote .ensures, c .if2 .taken)
+    rw (← f .before .before .read-head .ensures, ← f .before .has-form .ensures, not-false (f .before .has-form .result) (f .if1 .left), ← r .needs-remote .ensures, c .if2 .taken)
 
 value-in-range-requires : tie.Need-value-in-range-requires
 value-in-range-requires c κs = search needs
@@ -39,7 +39,7 @@ returns-3 c =
     let v = c .before .before in
     let r = v .before .before .before in
     let f = r .before in
-    rw (c .judge-channel .ensures, ← f .before .before .read-head .ensures, ← f .before .has-form .ensures, not-false _ (f .if1 .left), ← r .needs-remote .ensures, v .before .if2 .left, ← v .value-in-range .ensures, c .before .if3 .taken)
+    rw (c .judge-channel .ensures, ← f .before .before .read-head .ensures, ← f .before .has-form .ensures, not-false (f .before .has-form .result) (f .if1 .left), ← r .needs-remote .ensures, v .before .if2 .left, ← v .value-in-range .ensures, c .before .if3 .taken)
 
 returns-4 : tie.Need-returns-4
 unfolding judge judgeWhere
@@ -47,7 +47,7 @@ returns-4 c =
     let v = c .before in
     let r = v .before .before .before in
     let f = r .before in
-    rw (← f .before .before .read-head .ensures, ← f .before .has-form .ensures, not-false _ (f .if1 .left), ← r .needs-remote .ensures, v .before .if2 .left, ← v .value-in-range .ensures, c .if3 .left)
+    rw (← f .before .before .read-head .ensures, ← f .before .has-form .ensures, not-false (f .before .has-form .result) (f .if1 .left), ← r .needs-remote .ensures, v .before .if2 .left, ← v .value-in-range .ensures, c .if3 .left)
 
 pub judge-order-spec : {M : Type 1} → statement M
 judge-order-spec =
