@@ -4,6 +4,7 @@ use Prim.Native.String as S
 use mathlib.Core.Path.{refl}
 use mathlib.Core.List.{List, [], _∷_}
 use mathlib.Core.Bool.{true, false}
+use native.Mathlib.Omega.{arith}
 use lib.ListN.{replicate}
 use Rattle.text.specs.Text.{bytes}
 use Rattle.laws.specs.Sequences.{Call, command, reading, tick, Beginning}
@@ -12,7 +13,11 @@ use Rattle.laws.specs.Ledger.{Account}
 
 -- The bytes that a fresh call is made on, and calls with what they are lent: full of AAh, so that a byte left alone shows.
 abbrev pub lent : Beginning
-lent = record { bytes = replicate 1088 0xaa; whole = refl }
+lent = record { bytes = replicate 1088 0xaa; whole = refl; card = 0; known = omega arith }
+
+-- the same of the four-motor card
+abbrev pub lentFour : Beginning
+lentFour = record { bytes = replicate 1088 0xaa; whole = refl; card = 1; known = omega arith }
 
 abbrev pub says : S.String → Call
 says s = command (bytes s) (replicate 32 0xaa)

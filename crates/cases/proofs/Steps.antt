@@ -6,6 +6,7 @@ use Prim.Native.String as S
 use mathlib.Core.Path.{_≡_, refl, ap, _∙_}
 use mathlib.Core.List.{List, [], _∷_, _++_, map}
 use mathlib.Core.Bool.{true, cond}
+use native.Mathlib.Omega.{arith}
 use lib.ListN.{length, replicate}
 use lib.Dec.{eqb}
 use Rattle.digits.specs.Bytes.{part, gather}
@@ -34,9 +35,12 @@ pub data Step : Type 0 where
 abbrev pub lent : ℕ → List ℕ
 lent n = replicate n 0xaa
 
--- the bytes that a fresh call makes
+-- the bytes that a fresh call makes, of the sixteen-motor card, and of the four-motor card
 unfoldable pub fresh : List ℕ
-fresh = freshCall (lent 1088) .table
+fresh = freshCall (lent 1088) 0 .table
+
+unfoldable pub freshFour : List ℕ
+freshFour = freshCall (lent 1088) 1 .table
 
 -- what a step shows: its result, and the whole buffer after it
 pub record Shown : Type 0 where
@@ -65,6 +69,10 @@ leftBy l t (s ∷ ss) = leftBy l (after l t s .table) ss
 -- what ours shows from fresh on
 abbrev pub seen : List Step → List Shown
 seen ss = seenBy Q.urqolina fresh ss
+
+-- and on the four-motor card
+abbrev pub seenFour : List Step → List Shown
+seenFour ss = seenBy Q.urqolina freshFour ss
 
 -- what a tick gives on a table after each of some changes of its bytes; on the one that ours leaves from fresh on
 abbrev pub ticksOn : List (List ℕ → List ℕ) → List ℕ → List ℕ
@@ -111,11 +119,18 @@ same-left t (k ∷ ks) s = rw (← same-step t k s) (same-left (after Q.urqolina
 
 fresh-is-sound : soundTable fresh ≡ true
 unfolding fresh Q.run
-fresh-is-sound = ran-sound (record { bytes = lent 1088; whole = refl }) []
+fresh-is-sound = ran-sound (record { bytes = lent 1088; whole = refl; card = 0; known = omega arith }) []
+
+four-is-sound : soundTable freshFour ≡ true
+unfolding freshFour Q.run
+four-is-sound = ran-sound (record { bytes = lent 1088; whole = refl; card = 1; known = omega arith }) []
 
 -- So a list is checked where it is with the table unjudged; a list of lists; and what ticks give on the table that a list leaves.
 pub checked : (ss : List Step) → seenBy unjudged fresh ss ≡ map stated ss → seen ss ≡ map stated ss
 checked ss e = same-seen fresh ss fresh-is-sound ∙ e
+
+pub four-checked : (ss : List Step) → seenBy unjudged freshFour ss ≡ map stated ss → seenFour ss ≡ map stated ss
+four-checked ss e = same-seen freshFour ss four-is-sound ∙ e
 
 pub all-checked : (cs : List (List Step)) → map (seenBy unjudged fresh) cs ≡ map (λ c. map stated c) cs → map seen cs ≡ map (λ c. map stated c) cs
 all-checked cs e = go cs ∙ e

@@ -11,11 +11,10 @@ use borrow.Author.Tests.{eq-eqb}
 use Rattle.drive.specs.Numbers.{numberOf}
 use Rattle.drive.specs.Drives.{switchRead}
 use Rattle.pulses.specs.Ticks.{tickMotor}
-use Rattle.line.specs.Forms.{orderOf}
 use Rattle.table.specs.Layout.{tableSize, motorAt, withMotor, withMotors}
 use Rattle.table.specs.Sound.{soundTable}
 use Rattle.table.proofs.TableLaws.{sound-length}
-use Rattle.obeying.specs.Taking.{accepted, CommandAfter, taken}
+use Rattle.obeying.specs.Taking.{accepted, CommandAfter, orderIn, taken}
 use Rattle.urqolina.specs.Calls.{refusal, TableAfter, TickAfter, freshCall, commandCall, readingCall, counts, tickCall}
 use Rattle.laws.specs.Sequences.{Library, urqolina, Call, command, reading, tick, after, run, Beginning, fromFresh}
 use Rattle.laws.specs.Ledger.{Account, noDrive, entered, account}
@@ -27,7 +26,7 @@ abbrev pub unjudged : Library
 unjudged =
     record {
       fresh = freshCall;
-      command = λ t line reply. cond (leb 32 (length reply)) (taken t (orderOf line) reply) (record { result = 5; table = t; reply = reply });
+      command = λ t line reply. cond (leb 32 (length reply)) (taken t (orderIn t line) reply) (record { result = 5; table = t; reply = reply });
       reading = λ t c n. cond (leb c 15 && leb n 7) (record { result = 0; table = withMotor t c (switchRead (motorAt t c) n) }) (record { result = 5; table = t });
       tick = λ t p.
           cond (eqb (length p) 64)

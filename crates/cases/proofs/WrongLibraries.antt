@@ -11,15 +11,15 @@ use mathlib.Core.Path.{_≡_, refl, sym, ap, _∙_}
 use mathlib.Core.List.{List, [], _∷_, _++_}
 use mathlib.Core.Bool.{Bool, true, false, _&&_, not, cond, false≢true}
 use lib.ListN.{length, replicate, getD}
-use lib.Dec.{eqb, leb}
-use Rattle.digits.specs.Bytes.{put}
-use Rattle.digits.specs.Words.{wordBytes, isSet, withBit, withoutBit, bitsOf}
+use lib.Dec.{eqb, leb, ltb}
+use Rattle.digits.specs.Bytes.{put, gather}
+use Rattle.digits.specs.Words.{wordBytes, isSet, withBit, withoutBit, bitsOf, bitsSet}
 use Rattle.digits.specs.Places.{origin, highest, cw}
-use Rattle.text.specs.Text.{bytes, same, hexByte, hexWord}
+use Rattle.text.specs.Text.{bytes, same, digitByte, hexByte, hexWord}
 use Rattle.record.specs.declared.Wiring.{Wiring}
 use Rattle.record.specs.declared.Drive.{Drive}
 use Rattle.record.specs.declared.Motor.{Motor}
-use Rattle.record.specs.Record.{withPlace, withLimits, withWiring, withSetup, withDrive, withFraction, withSpeedInForce}
+use Rattle.record.specs.Record.{recordOf, withPlace, withLimits, withWiring, withSetup, withDrive, withFraction, withSpeedInForce}
 use Rattle.motor.specs.Switches.{digital}
 use Rattle.motor.specs.Sound.{busy, moving}
 use Rattle.drive.specs.Numbers.{numberOf}
@@ -27,18 +27,19 @@ use Rattle.drive.specs.Drives.{selectedSpeed, released, stopped, contacted}
 use Rattle.line.specs.declared.Start.the-variants.{Rel, Scan}
 use Rattle.line.specs.declared.Setting.the-variants.{Preset, SetCwLimit}
 use Rattle.line.specs.declared.Question.the-variants.{AskStatus}
-use Rattle.line.specs.declared.HeadQuestion.the-variants.{AskBusy}
+use Rattle.line.specs.declared.HeadQuestion.the-variants.{AskBusy, AskFree}
 use Rattle.line.specs.declared.HeadOrder.the-variants.{Mode, Pause}
 use Rattle.line.specs.declared.Order.{Order}
 use Rattle.line.specs.declared.Order.the-variants.{Go, Stop, ChangeSpeed, Set, ForHead}
 use Rattle.line.specs.declared.Parsed.the-variants.{Is, Nothing}
 use Rattle.line.specs.Forms.{ssend, orderOf}
-use Rattle.table.specs.Layout.{headOf, withHead, withMode, withReply, withErrors, withPause, withBusy, motorAt, sealed, withMotor, withMotors, freshTable}
+use Rattle.table.specs.declared.head.Head.{Head}
+use Rattle.table.specs.Layout.{headOf, headBytes, headRest, paused, full, withHead, withMode, withReply, withErrors, withPause, withBusy, motorAt, sealed, withMotor, withMotors, freshTable}
 use Rattle.table.specs.Sound.{soundTable}
 use Rattle.commands.specs.Judging.{judge}
 use Rattle.commands.specs.Changing.{flagged}
-use Rattle.obeying.specs.Taking.{CommandAfter}
-use Rattle.urqolina.specs.Calls.{TickAfter, freshCall, commandCall, readingCall, tickCall}
+use Rattle.obeying.specs.Taking.{CommandAfter, orderIn}
+use Rattle.urqolina.specs.Calls.{TableAfter, TickAfter, freshCall, commandCall, readingCall, tickCall}
 use Rattle.laws.specs.Computing.{computing-laws}
 use Rattle.laws.specs.Sequences.{Library, Call, urqolina, command, reading, tick, After, Beginning, ran}
 use Rattle.laws.specs.Deeds.{Deed, starts, stops, speeds, sets, reads, ticks, pauses, rests, deed, isTick, verdict, orderTaken}
@@ -46,10 +47,10 @@ use Rattle.laws.specs.Ledger.{countAt, Account, Travel}
 use Rattle.laws.specs.Numbers.{Numbers, Replies, sizesRight, starting, asks}
 use Rattle.laws.specs.Neighbours.{listed, Neighbours}
 use Rattle.laws.specs.ReadBack.{ReadsBack, isSome}
-use Rattle.laws.specs.Pulses.{motorNow, accountNow, travelNow, settingsNow, Ends, byStop, bySwitch, byTarget, byRoom, Demand3, Settled}
+use Rattle.laws.specs.Pulses.{motorNow, accountNow, travelNow, settingsNow, Ends, byStop, bySwitch, byTarget, byRoom, Demand3, Settled, Shared}
 use Rattle.laws.specs.Contacts.{toldNow, Contacts}
 use Rattle.laws.proofs.NumberLaws.{numbers}
-use Rattle.cases.proofs.Beginnings.{lent, says, ticked, ready, running, underPause}
+use Rattle.cases.proofs.Beginnings.{lent, lentFour, says, ticked, ready, running, underPause}
 use Rattle.cases.proofs.Unjudged.{unjudged}
 
 -- Demand 3 for every channel and every sequence, and read-back for every sequence and every read that is lent enough.
@@ -97,7 +98,7 @@ refusesAll =
 pub refuses-all-refused : Numbers refusesAll → ⊥
 unfolding computing-laws
 refuses-all-refused n =
-    let fact : _≡_ {A = ℕ} 1 0 = n .accepts freshTable (bytes "REM") (replicate 32 0xaa) (ForHead (Mode 1)) refl refl in
+    let fact : _≡_ {A = ℕ} 1 0 = n .accepts (freshTable 0) (bytes "REM") (replicate 32 0xaa) (ForHead (Mode 1)) refl refl in
     absurd (omega (arith, fact))
 
 -- "or answers OK to all": X has no form, and 0 may not come.
@@ -106,7 +107,7 @@ acceptsAll = withCommand (λ t line reply. record { result = 0; table = t; reply
 
 pub accepts-all-refused : Numbers acceptsAll → ⊥
 unfolding computing-laws
-accepts-all-refused n = n .refuses freshTable (bytes "X") (replicate 32 0xaa) refl refl refl
+accepts-all-refused n = n .refuses (freshTable 0) (bytes "X") (replicate 32 0xaa) refl refl refl
 
 -- "a tick that does nothing (demand 3's lower bound)": two ticks at 800 pps, S = 1600, P = 0.
 abbrev pub idle : Library
@@ -392,14 +393,14 @@ scribbles =
 pub scribbles-refused : Numbers scribbles → ⊥
 unfolding computing-laws
 scribbles-refused n =
-    let left = n .sizes freshTable (command (bytes "REM") (replicate 31 0xaa)) refl in
+    let left = n .sizes (freshTable 0) (command (bytes "REM") (replicate 31 0xaa)) refl in
     let fact : _≡_ {A = ℕ} 0 0xaa = ap (λ (a : After). getD (a .buffer) 0 0) left in
     absurd (omega (arith, fact))
 
 abbrev pub repairs : Library
 repairs =
     withCommand
-    (λ t line reply. cond (soundTable t) (commandCall t line reply) (record { result = 6; table = freshTable; reply = reply }))
+    (λ t line reply. cond (soundTable t) (commandCall t line reply) (record { result = 6; table = (freshTable 0); reply = reply }))
 
 pub repairs-refused : Numbers repairs → ⊥
 unfolding computing-laws
@@ -418,7 +419,7 @@ flagsNext =
 pub flags-next-refused : Numbers flagsNext → ⊥
 unfolding computing-laws
 flags-next-refused n =
-    let left = n .flags freshTable (bytes "X") (replicate 32 0) 1 refl refl in
+    let left = n .flags (freshTable 0) (bytes "X") (replicate 32 0) 1 refl refl in
     let fact : _≡_ {A = ℕ} 2 1 = ap (λ (t : List ℕ). getD t 2 0) left in
     absurd (omega (arith, fact))
 
@@ -433,7 +434,7 @@ reachesNeighbour =
 pub reaches-neighbour-refused : Neighbours reachesNeighbour → ⊥
 unfolding computing-laws
 reaches-neighbour-refused n =
-    let left = n .others freshTable (bytes "SSTP0") (replicate 32 0) (Stop 0 ssend) 0 1 refl refl (λ e. absurd (omega (arith, e))) in
+    let left = n .others (freshTable 0) (bytes "SSTP0") (replicate 32 0) (Stop 0 ssend) 0 1 refl refl (λ e. absurd (omega (arith, e))) in
     let fact : _≡_ {A = ℕ} 7 0 = ap (λ (r : List ℕ). getD r 0 0) left in
     absurd (omega (arith, fact))
 
@@ -448,7 +449,7 @@ talks =
 pub talks-refused : AllReplies talks → ⊥
 unfolding computing-laws
 talks-refused r =
-    let fact : _≡_ {A = ℕ} 512 0 = r freshTable (bytes "REM") (replicate 32 0) refl (omega arith) .others refl .0 in
+    let fact : _≡_ {A = ℕ} 512 0 = r (freshTable 0) (bytes "REM") (replicate 32 0) refl (omega arith) .others refl .0 in
     absurd (omega (arith, fact))
 
 -- Limits that change places: FL is kept as the CCW limit, and would read back from there.
@@ -471,7 +472,7 @@ abbrev underway : List ℕ
 underway = ran unjudged lent scanning
 
 -- A library is refused if it takes a line that has no form,
-takes-formless : (l : Library) (t line : List ℕ) → sizesRight t (command line (replicate 32 0xaa)) ≡ true → soundTable t ≡ true → orderOf line ≡ Nothing
+takes-formless : (l : Library) (t line : List ℕ) → sizesRight t (command line (replicate 32 0xaa)) ≡ true → soundTable t ≡ true → orderIn t line ≡ Nothing
     → l .command t line (replicate 32 0xaa) .result % 256 ≡ 0 → Numbers l → ⊥
 takes-formless l t line sizes sound none taken n = absurd (omega (arith, n .formless t line (replicate 32 0xaa) sizes sound none, taken))
 
@@ -553,7 +554,7 @@ unreadAtEnd = ran unjudged lent (says "REM" ∷ says "PS0+2147483647" ∷ [])
 
 -- A library is refused if it gives a line another number than the rules.
 numbered-other : (l : Library) (t line : List ℕ) (o : Order) (n m : ℕ) → sizesRight t (command line (replicate 32 0xaa)) ≡ true → soundTable t ≡ true
-    → orderOf line ≡ Is o → numberOf (judge t o) ≡ n → l .command t line (replicate 32 0xaa) .result % 256 ≡ m → (m ≡ n → ⊥) → Numbers l → ⊥
+    → orderIn t line ≡ Is o → numberOf (judge t o) ≡ n → l .command t line (replicate 32 0xaa) .result % 256 ≡ m → (m ≡ n → ⊥) → Numbers l → ⊥
 numbered-other l t line o n m sizes sound e f g other d =
     other (sym g ∙ d .judged t line (replicate 32 0xaa) o sizes sound e ∙ f)
 
@@ -713,7 +714,7 @@ renumbers f =
 
 -- What it gives to a line on a sound table, which our number n for it decides.
 module _ (f : List ℕ → List ℕ → ℕ → ℕ) (t line : List ℕ) (o : Order) (n m : ℕ) (sizes : sizesRight t (command line (replicate 32 0xaa)) ≡ true)
-    (sound : soundTable t ≡ true) (is : orderOf line ≡ Is o) (judged : numberOf (judge t o) ≡ n) (gives : f t line n ≡ m) (small : m ≤ 255) where
+    (sound : soundTable t ≡ true) (is : orderIn t line ≡ Is o) (judged : numberOf (judge t o) ≡ n) (gives : f t line n ≡ m) (small : m ≤ 255) where
   renumbered : renumbers f .command t line (replicate 32 0xaa) .result % 256 ≡ m
   renumbered =
       let ours : commandCall t line (replicate 32 0xaa) .result % 256 ≡ n = numbers .judged t line (replicate 32 0xaa) o sizes sound is ∙ judged in
@@ -725,12 +726,12 @@ module _ (f : List ℕ → List ℕ → ℕ → ℕ) (t line : List ℕ) (o : Or
 
 -- a fresh table in remote mode with another motor in channel 0
 abbrev holding : Motor → List ℕ
-holding m = withMotor (withHead freshTable (withMode (headOf freshTable) 1)) 0 m
+holding m = withMotor (withHead (freshTable 0) (withMode (headOf (freshTable 0)) 1)) 0 m
 
 -- a motor at the end of the range with D = 1 and a limit
 abbrev ending : ℕ → Motor
 ending limit =
-    withPlace (withLimits (withWiring (motorAt freshTable 0) (record { setls = 0b11110000; contacts = 0; read = 1 })) (record { cw = limit; ccw = limit })) highest
+    withPlace (withLimits (withWiring (motorAt (freshTable 0) 0) (record { setls = 0b11110000; contacts = 0; read = 1 })) (record { cw = limit; ccw = limit })) highest
 
 -- 11 wherever D = 1, and 12 only where the limit is the end of the range: "where both, 12".
 abbrev pub limitFirst : List ℕ → List ℕ → ℕ → ℕ
@@ -753,7 +754,7 @@ valueFirst t line n = cond (eqb n 7 && eqb (numberOf (verdict (withHead t (withM
 pub value-first-refused : Numbers (renumbers valueFirst) → ⊥
 unfolding computing-laws
 value-first-refused =
-    renumbered-other valueFirst freshTable (bytes "PS0+9999999999") (Set 0 (Preset (record { minus = false; digits = 9999999999 }))) 7 3 refl refl refl refl refl
+    renumbered-other valueFirst (freshTable 0) (bytes "PS0+9999999999") (Set 0 (Preset (record { minus = false; digits = 9999999999 }))) 7 3 refl refl refl refl refl
     (omega arith) (omega arith)
 
 -- SPC that meets the checks of a start: "8 to 12 for starts only".
@@ -763,7 +764,7 @@ changesAsStart t line n = cond (eqb n 13 && eqb (motorAt t 0 .setup .a) 0) 8 n
 pub changes-as-start-refused : Numbers (renumbers changesAsStart) → ⊥
 unfolding computing-laws
 changes-as-start-refused d =
-    let t = holding (withSetup (motorAt freshTable 0) (record { a = 0; b = 1; c = 0; d = 0 })) in
+    let t = holding (withSetup (motorAt (freshTable 0) 0) (record { a = 0; b = 1; c = 0; d = 0 })) in
     absurd (false≢true (d .starts t (bytes "SPC0500") (replicate 32 0xaa) 8 (omega arith) (omega arith)
     (renumbered changesAsStart t (bytes "SPC0500") (ChangeSpeed 0 500) 13 8 refl refl refl refl refl (omega arith))))
 
@@ -774,8 +775,8 @@ fourLeft t line n = cond (eqb n 7 && not (isSome starting (orderOf line))) 4 n
 pub four-left-refused : Numbers (renumbers fourLeft) → ⊥
 unfolding computing-laws
 four-left-refused d =
-    d .split freshTable (command (bytes "PAUSE ON") (replicate 32 0xaa))
-    (renumbered fourLeft freshTable (bytes "PAUSE ON") (ForHead (Pause 1)) 7 4 refl refl refl refl refl (omega arith))
+    d .split (freshTable 0) (command (bytes "PAUSE ON") (replicate 32 0xaa))
+    (renumbered fourLeft (freshTable 0) (bytes "PAUSE ON") (ForHead (Pause 1)) 7 4 refl refl refl refl refl (omega arith))
 
 -- The flag is bit (number - 1): 7 would set bit 6 where bit 3 is due, and no later call would find the table sound.
 abbrev pub flagsInTurn : Library
@@ -789,7 +790,7 @@ flagsInTurn =
 pub flags-in-turn-refused : Numbers flagsInTurn → ⊥
 unfolding computing-laws
 flags-in-turn-refused d =
-    let left = d .flags freshTable (bytes "SCANP0") (replicate 32 0) 7 refl refl in
+    let left = d .flags (freshTable 0) (bytes "SCANP0") (replicate 32 0) 7 refl refl in
     let fact : _≡_ {A = ℕ} 64 8 = ap (λ (t : List ℕ). getD t 2 0) left in
     absurd (omega (arith, fact))
 
@@ -864,7 +865,7 @@ trustsSets = withTick (λ t p. tickCall (sealed t) p)
 pub trusts-sets-refused : Numbers trustsSets → ⊥
 unfolding computing-laws
 trusts-sets-refused n =
-    let left = n .unsound (put freshTable 4 (1 ∷ [])) ticked refl refl in
+    let left = n .unsound (put (freshTable 0) 4 (1 ∷ [])) ticked refl refl in
     let fact : _≡_ {A = ℕ} 0 6 = ap (λ (a : After). a .result) left in
     absurd (omega (arith, fact))
 
@@ -893,3 +894,110 @@ tells-turned-refused = (
       let fact : _≡_ {A = ℕ} (code "8") (code "0") = ap (λ (b : List ℕ). getD b 0 0) (told-one _ r) in
       absurd (omega (arith, fact))),
 )
+
+-- 02 §7, "The four-motor card", misread. Demand 3 for every sequence, over the number that may be busy.
+abbrev pub AllShared : Library → Type 0
+AllShared l = (b : Beginning) (ks : List Call) → Shared l b ks
+
+-- A library is refused if after some calls its word has more bits than motors may be busy: the word is what the accounts count.
+too-busy : (l : Library) (ks : List Call) (n : ℕ) → bitsSet (headOf (ran l lentFour ks) .busy) ≡ n → 4 < n → AllShared l → ⊥
+too-busy l ks n e more d =
+    let shared = d lentFour ks in
+    absurd (omega (arith, shared .few, sym e ∙ shared .word, more))
+
+-- The channels 0 to 4 read, and a start of each.
+abbrev allRead : List Call
+allRead = reading 0 0 ∷ reading 1 0 ∷ reading 2 0 ∷ reading 3 0 ∷ reading 4 0 ∷ says "REM" ∷ []
+
+abbrev fiveStarts : List Call
+fiveStarts = says "SCANP0" ∷ says "SCANP1" ∷ says "SCANP2" ∷ says "SCANP3" ∷ says "SCANP4" ∷ []
+
+-- A fifth start that is taken, always or only where it is held: as the sixteen-motor card takes it.
+abbrev pub takesFifth : (List ℕ → Bool) → Library
+takesFifth free =
+    record {
+      fresh = freshCall;
+      command = λ t line reply.
+          cond (free t)
+          (let a = unjudged .command (put t 6 (0 ∷ [])) line reply in record { result = a .result; table = put (a .table) 6 (1 ∷ []); reply = a .reply })
+          (unjudged .command t line reply);
+      reading = unjudged .reading;
+      tick = unjudged .tick;
+    }
+
+pub fifth-taken-refused : (AllShared (takesFifth (λ t. true)) → ⊥) × (AllShared (takesFifth (λ t. paused (headOf t))) → ⊥)
+unfolding computing-laws
+fifth-taken-refused = (
+  too-busy (takesFifth (λ t. true)) (allRead ++ fiveStarts) 5 refl (omega arith),
+  too-busy (takesFifth (λ t. paused (headOf t))) (allRead ++ (says "PAUSE ON" ∷ fiveStarts)) 5 refl (omega arith),
+)
+
+-- A table of the four-motor card in remote mode: the first n channels scan, channel 5 is not read, and the others stand, read.
+abbrev motorsBusy : ℕ → List ℕ
+motorsBusy n =
+    let m = motorAt (freshTable 1) 0 in
+    let known = contacted m 0 in
+    let drive : Drive = record { going = cw; held = false; kind = 0; fraction = 0; speed = 800; target = origin } in
+    headBytes (record { mode = 1; reply = 0; errors = 0; pause = 0; busy = bitsOf (λ c. ltb c n) 16; card = 1 })
+    ++ (replicate headRest 0 ++ gather (λ c. recordOf (cond (ltb c n) (withDrive known 0 drive) (cond (eqb c 5) m known))) 16)
+
+-- The fourth start refused; and on a full card 14 given too early: before the exit of REL 0, before busy, and before the causes of 02 §5.
+abbrev pub fullAtThree : List ℕ → List ℕ → ℕ → ℕ
+fullAtThree t line n = cond (eqb n 0 && isSome starting (orderOf line) && leb 3 (bitsSet (headOf t .busy))) 14 n
+
+abbrev pub fullBefore : ℕ → List ℕ → List ℕ → ℕ → ℕ
+fullBefore k t line n = cond (eqb n k && isSome starting (orderOf line) && full (headOf t)) 14 n
+
+pub full-turned-refused : (Numbers (renumbers fullAtThree) → ⊥) × (Numbers (renumbers (fullBefore 0)) → ⊥)
+    × (Numbers (renumbers (fullBefore 2)) → ⊥) × (Numbers (renumbers (fullBefore 9)) → ⊥)
+unfolding computing-laws
+full-turned-refused = (
+  renumbered-other fullAtThree (motorsBusy 3) (bytes "SCANP3") (Go 3 (Scan cw)) 0 14 refl refl refl refl refl (omega arith) (omega arith),
+  renumbered-other (fullBefore 0) (motorsBusy 4) (bytes "REL4+0") (Go 4 (Rel (record { minus = false; digits = 0 }))) 0 14 refl refl refl refl refl (omega arith) (omega arith),
+  renumbered-other (fullBefore 2) (motorsBusy 4) (bytes "SCANP0") (Go 0 (Scan cw)) 2 14 refl refl refl refl refl (omega arith) (omega arith),
+  renumbered-other (fullBefore 9) (motorsBusy 4) (bytes "SCANP5") (Go 5 (Scan cw)) 9 14 refl refl refl refl refl (omega arith) (omega arith),
+)
+
+-- `STQ?` answered on the sixteen-motor card, where it is 1; or with the number of those that are busy: R4 for R0.
+abbrev pub answersFree : (Head → List ℕ) → Library
+answersFree text =
+    withCommand
+    (λ t line reply. cond (same line (bytes "STQ?")) (record { result = 512; table = t; reply = put reply 0 (text (headOf t)) }) (commandCall t line reply))
+
+pub free-everywhere-refused : Numbers (answersFree (λ h. code "R" ∷ digitByte (4 - bitsSet (h .busy)) ∷ [])) → ⊥
+unfolding computing-laws
+free-everywhere-refused n =
+    let fact : _≡_ {A = ℕ} 0 1 = n .formless (freshTable 0) (bytes "STQ?") (replicate 32 0) refl refl refl in
+    absurd (omega (arith, fact))
+
+pub free-turned-refused : AllReplies (answersFree (λ h. code "R" ∷ digitByte (bitsSet (h .busy)) ∷ [])) → ⊥
+unfolding computing-laws
+free-turned-refused r =
+    let told = r (motorsBusy 4) (bytes "STQ?") (replicate 32 0) refl (omega arith) .headReads AskFree refl in
+    let fact : _≡_ {A = ℕ} (code "4") (code "0") = ap (λ (a : After). getD (a .buffer) 1 0) told in
+    absurd (omega (arith, fact))
+
+-- Fresh that keeps the card that the bytes had, or takes a card of which only the low byte is 0 or 1; and a reading that turns the card.
+abbrev pub freshAs : (List ℕ → ℕ → ℕ) → Library
+freshAs card = record { fresh = λ b n. freshCall b (card b n); command = commandCall; reading = readingCall; tick = tickCall }
+
+pub fresh-card-refused : (Numbers (freshAs (λ b n. getD b 6 0)) → ⊥) × (Numbers (freshAs (λ b n. n % 256)) → ⊥)
+unfolding computing-laws
+fresh-card-refused = (
+  (λ n.
+      let fact : _≡_ {A = ℕ} 0 1 = ap (λ (a : TableAfter). getD (a .table) 6 0) (n .freshMade (replicate 1088 0) 1 refl (omega arith)) in
+      absurd (omega (arith, fact))),
+  (λ n.
+      let fact : _≡_ {A = ℕ} 0 5 = ap (λ (a : TableAfter). a .result) (n .freshRefused (replicate 1088 0) 256 (λ h. absurd (omega (arith, h .1)))) in
+      absurd (omega (arith, fact))),
+)
+
+abbrev pub turnsCard : Library
+turnsCard =
+    record { fresh = freshCall; command = commandCall; reading = λ t c n. let a = readingCall t c n in record { result = a .result; table = put (a .table) 6 (1 ∷ []) }; tick = tickCall }
+
+pub turns-card-refused : Neighbours turnsCard → ⊥
+unfolding computing-laws
+turns-card-refused n =
+    let fact : _≡_ {A = ℕ} 1 0 = n .card (freshTable 0) (reading 0 0) in
+    absurd (omega (arith, fact))
