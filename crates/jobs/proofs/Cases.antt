@@ -2,10 +2,11 @@
 use Prim.Native.Nat.{_+_, _-_, _*_}
 use mathlib.Core.Path.{_≡_, refl}
 use mathlib.Core.List.{[], _∷_, _++_, map}
+use mathlib.Core.Bool.{true, false}
 use lib.ListN.{replicate}
 use Rattle.digits.specs.Places.{origin}
 use Rattle.text.specs.Text.{bytes}
-use Rattle.jobs.specs.declared.Job.the-variants.{Send, Touch, Wait, Unknown}
+use Rattle.jobs.specs.declared.Job.the-variants.{Send, Touch, Wait, FourMotors, Unknown}
 use Rattle.jobs.specs.Jobs.{linesOf, jobOf}
 use Rattle.jobs.specs.Texts.{commandText, netsAfter, waitedText}
 use Rattle.jobs.specs.Holding.{kept}
@@ -13,13 +14,20 @@ use Rattle.jobs.specs.Computing.{computing-jobs}
 
 -- lines, and what each asks for
 jobs :
-    (map jobOf (linesOf (bytes "C REM\nC \nS F 7\nT 1\nT 10000"))
+    (map (jobOf false) (linesOf (bytes "C REM\nC \nS F 7\nT 1\nT 10000"))
     ≡ Send ∷ Send ∷ Touch 15 7 ∷ Wait 1 ∷ Wait 10000 ∷ [])
-    × (map (λ l. jobOf (bytes l))
+    × (map (λ l. jobOf false (bytes l))
     ("" ∷ "C" ∷ " C REM" ∷ "c REM" ∷ "C\tREM" ∷ "S" ∷ "S 0" ∷ "S 0 8" ∷ "S G 1" ∷ "S 0 1 " ∷ "S 0  1" ∷ "T" ∷ "T 0" ∷ "T 01" ∷ "T +1" ∷ "T 10001" ∷ "T 1 " ∷ "T 100000" ∷ "X 1" ∷ [])
     ≡ Unknown ∷ Unknown ∷ Unknown ∷ Unknown ∷ Unknown ∷ Unknown ∷ Unknown ∷ Unknown ∷ Unknown ∷ Unknown ∷ Unknown ∷ Unknown ∷ Unknown ∷ Unknown ∷ Unknown ∷ Unknown ∷ Unknown ∷ Unknown ∷ Unknown ∷ [])
 unfolding computing-jobs
 jobs = (refl, refl)
+
+-- 02 §7: exactly `K 1`, and as the first line alone
+cards :
+    (map (λ l. jobOf true (bytes l)) ("K 1" ∷ "K 0" ∷ "K 2" ∷ "K 01" ∷ "K 1 " ∷ "K 1\r" ∷ "K" ∷ "K " ∷ "K1" ∷ "k 1" ∷ "K 11" ∷ " K 1" ∷ "C REM" ∷ [])
+    ≡ FourMotors ∷ replicate 11 Unknown ++ (Send ∷ [])) × (jobOf false (bytes "K 1") ≡ Unknown)
+unfolding computing-jobs
+cards = (refl, refl)
 
 -- a command without a reply, and with one of three bytes: bytes past the reply are not printed
 command-texts :

@@ -30,18 +30,18 @@ read-parts s v n e = go (leb 1 (digitsAtFront s) && leb (digitsAtFront s) 10) re
     go false p e = let z : _≡_ {A = ℕ} 0 1 = cc in absurd (omega arith)
 
 -- A line of two bytes or more: the second is a blank, and the first is the letter.
-pub job-two : (s : List ℕ) → 2 ≤ length s → jobOf s ≡ jobIf (eqb (getD s 1 0) (code " ")) (lettered (getD s 0 0) (drop 2 s))
+pub job-two : (first : Bool) (s : List ℕ) → 2 ≤ length s → jobOf first s ≡ jobIf (eqb (getD s 1 0) (code " ")) (lettered first (getD s 0 0) (drop 2 s))
 unfolding jobOf
-job-two [] h = absurd (omega arith)
-job-two (k ∷ []) h = absurd (omega arith)
-job-two (k ∷ b ∷ s) h = refl
+job-two first [] h = absurd (omega arith)
+job-two first (k ∷ []) h = absurd (omega arith)
+job-two first (k ∷ b ∷ s) h = refl
 
 -- A shorter line is none.
-pub job-short : (s : List ℕ) → length s < 2 → jobOf s ≡ Unknown
+pub job-short : (first : Bool) (s : List ℕ) → length s < 2 → jobOf first s ≡ Unknown
 unfolding jobOf
-job-short [] h = refl
-job-short (k ∷ []) h = refl
-job-short (k ∷ b ∷ s) h = absurd (omega arith)
+job-short first [] h = refl
+job-short first (k ∷ []) h = refl
+job-short first (k ∷ b ∷ s) h = absurd (omega arith)
 
 -- tests in another grouping, after one that holds
 regroup : (a b : Bool) → (a && true && b) ≡ (a && b)

@@ -1,5 +1,5 @@
 -- Document 01, "Bench cases": *bench* "reads standard input: `C line`, `S x n` (x as above, contacts 0..7), `T n` (1..10000
--- ticks, no leading zeros)".
+-- ticks, no leading zeros)"; 02 §7: "*bench* makes the sixteen card, or the four if its first line is `K 1`".
 use Prim.Native.Char.{code}
 use Prim.Native.Nat.{ℕ}
 use mathlib.Core.List.{List, [], _∷_}
@@ -8,7 +8,7 @@ use lib.ListN.{length, getD}
 use lib.Dec.{eqb, leb}
 use Rattle.text.specs.Text.{isDigit, digitValue, isHex, hexValue, digitsAtFront, valueOf}
 use Rattle.jobs.specs.declared.Job.{Job}
-use Rattle.jobs.specs.declared.Job.the-variants.{Send, Touch, Wait, Unknown}
+use Rattle.jobs.specs.declared.Job.the-variants.{Send, Touch, Wait, FourMotors, Unknown}
 
 -- a byte in front of the first of some lines
 abbrev pub joined : ℕ → List (List ℕ) → List (List ℕ)
@@ -45,12 +45,21 @@ waitOf s =
     jobIf (leb 1 (length s) && leb (length s) 5 && eqb (digitsAtFront s) (length s) && isTicks (getD s 0 0) (valueOf s))
     (Wait (valueOf s))
 
--- "`C line`, `S x n`, `T n`": by the letter, with what comes after it and its blank
-unfoldable pub lettered : ℕ → List ℕ → Job
-lettered k s = cond (eqb k (code "C")) Send (cond (eqb k (code "S")) (touchOf s) (cond (eqb k (code "T")) (waitOf s) Unknown))
+-- 02 §7: "the four if its first line is `K 1`": after `K ` comes 1 and nothing else, and the line is the first one
+unfoldable pub cardOf : Bool → List ℕ → Job
+cardOf first s = jobIf (eqb (length s) 1 && first && eqb (getD s 0 0) (code "1")) FourMotors
 
--- what a line asks for
-unfoldable pub jobOf : List ℕ → Job
-jobOf [] = Unknown
-jobOf (k ∷ []) = Unknown
-jobOf (k ∷ b ∷ s) = jobIf (eqb b (code " ")) (lettered k s)
+-- "`C line`, `S x n`, `T n`", and 02 §7 "`K 1`": by the letter, with what comes after it and its blank
+unfoldable pub lettered : Bool → ℕ → List ℕ → Job
+lettered first k s =
+    cond (eqb k (code "C")) Send
+    (cond (eqb k (code "S")) (touchOf s)
+    (cond (eqb k (code "T")) (waitOf s)
+    (cond (eqb k (code "K")) (cardOf first s)
+    Unknown)))
+
+-- what a line asks for, which is the first one or not
+unfoldable pub jobOf : Bool → List ℕ → Job
+jobOf first [] = Unknown
+jobOf first (k ∷ []) = Unknown
+jobOf first (k ∷ b ∷ s) = jobIf (eqb b (code " ")) (lettered first k s)

@@ -7,10 +7,11 @@ pub mod reading;
 pub mod texts;
 
 // A line of a script: a command line, which stands after its first two bytes; a switch reading of a channel; a number of
-// ticks; or anything else.
+// ticks; the four-motor card, asked for by the first line alone; or anything else.
 pub enum Job {
     Send,
     Touch(u8, u8),
     Wait(u32),
+    FourMotors,
     Unknown,
 }

@@ -8,7 +8,7 @@ use text::decimal::digit_value;
 use text::decimal::is_digit;
 use text::decimal::number_at;
 ghost use mathlib.Core.Path.{_≡_};
-ghost use Rattle.jobs.specs.Jobs.{isContacts, isTicks, touchOf, waitOf, lettered, jobOf};
+ghost use Rattle.jobs.specs.Jobs.{isContacts, isTicks, touchOf, waitOf, cardOf, lettered, jobOf};
 
 // Whether a byte is the digit of contacts.
 fn is_contacts(b: u8) -> bool
@@ -58,26 +58,43 @@ fn wait_of(s: &[u8]) -> Job
     }
 }
 
+// K 1: what stands after `K ` is 1 and nothing else, and no line came before.
+fn card_of(first: bool, s: &[u8]) -> Job
+    ensures { λ r. ⌜ r ≡ cardOf first (now (s .entry)) ⌝ }
+{
+    if s.len() == 1 {
+        if first & (s[0] == b'1') {
+            Job::FourMotors
+        } else {
+            Job::Unknown
+        }
+    } else {
+        Job::Unknown
+    }
+}
+
 // By the letter, with what comes after it and its blank.
-fn by_letter(k: u8, s: &[u8]) -> Job
-    ensures { λ r. ⌜ r ≡ lettered k (now (s .entry)) ⌝ }
+fn by_letter(first: bool, k: u8, s: &[u8]) -> Job
+    ensures { λ r. ⌜ r ≡ lettered first k (now (s .entry)) ⌝ }
 {
     match k {
         b'C' => Job::Send,
         b'S' => touch_of(s),
         b'T' => wait_of(s),
+        b'K' => card_of(first, s),
         _ => Job::Unknown,
     }
 }
 
-pub fn job_of(line: &[u8]) -> Job
-    ensures { λ r. ⌜ r ≡ jobOf (now (line .entry)) ⌝ }
+// What a line asks for, which is the first one or not.
+pub fn job_of(first: bool, line: &[u8]) -> Job
+    ensures { λ r. ⌜ r ≡ jobOf first (now (line .entry)) ⌝ }
 {
     if line.len() < 2 {
         return Job::Unknown;
     }
     if line[1] == b' ' {
-        by_letter(line[0], &line[2..])
+        by_letter(first, line[0], &line[2..])
     } else {
         Job::Unknown
     }

@@ -18,22 +18,21 @@ use Rattle.line.specs.declared.Order.{Order}
 use Rattle.line.specs.declared.Order.the-variants.{Go, Stop, StopAll, ChangeSpeed, Set, Ask, AskHead, ForHead}
 use Rattle.line.specs.declared.Parsed.{Parsed}
 use Rattle.line.specs.declared.Parsed.the-variants.{Is, Nothing}
-use Rattle.line.specs.Forms.{orderOf}
 use Rattle.replies.proofs.ReplyLaws.{echo-within, head-within, question-within}
 use Rattle.table.specs.Layout.{tableSize, headOf, motorAt}
 use Rattle.table.specs.Sound.{soundTable}
 use Rattle.commands.specs.Answers.{answer}
 use Rattle.commands.specs.Judging.{judge}
 use Rattle.commands.specs.Changing.{changed, flagged}
-use Rattle.obeying.specs.Taking.{CommandAfter, refused, obeyed, taken}
+use Rattle.obeying.specs.Taking.{CommandAfter, orderIn, refused, obeyed, taken}
 use Rattle.drive.proofs.NumberLaws.{numbered}
-use Rattle.urqolina.specs.Calls.{commandCall, readingCall}
+use Rattle.urqolina.specs.Calls.{freshCall, commandCall, readingCall}
 use Rattle.jobs.specs.declared.Job.{Job}
-use Rattle.jobs.specs.declared.Job.the-variants.{Send, Touch, Wait, Unknown}
-use Rattle.jobs.specs.Jobs.{isContacts, isTicks, jobIf, touchOf, waitOf, lettered, jobOf}
+use Rattle.jobs.specs.declared.Job.the-variants.{Send, Touch, Wait, FourMotors, Unknown}
+use Rattle.jobs.specs.Jobs.{isContacts, isTicks, jobIf, touchOf, waitOf, cardOf, lettered, jobOf}
 use Rattle.jobs.specs.Bounds.{mostTicks}
 use Rattle.jobs.specs.Texts.{plainText, commandText, netTexts, waitedText}
-use Rattle.running.specs.Running.{Waited, tickOf, waited, sent, touched, ticked, jobDone, lineDone}
+use Rattle.running.specs.Running.{Waited, tickOf, waited, sent, touched, ticked, renewed, jobDone, lineDone}
 use Rattle.jobs.proofs.JobLaws.{ticks-within}
 use Rattle.jobs.proofs.OutLaws.{reply-within, net-within}
 
@@ -74,11 +73,11 @@ command-within t line reply = go (eqb (length t) tableSize && leb 32 (length rep
     after sizes sound =
         let v = cond sizes (cond sound Done NotSound) WrongSize in
         cond (eqb (numberOf v) 0)
-        (taken t (orderOf line) reply)
+        (taken t (orderIn t line) reply)
         (record { result = numberOf v; table = t; reply = reply })
 
     go : (sizes sound : Bool) → after sizes sound .result / 256 ≤ 17
-    go true true = taken-within t (orderOf line) reply
+    go true true = taken-within t (orderIn t line) reply
     go true false = omega arith
     go false sound = omega arith
 
@@ -103,22 +102,23 @@ waited-short result nets = rw length-append (omega (arith, plain-within result, 
 
 -- So there is room in the buffer for the text of any job, and its line feed.
 pub job-within : (t line : List ℕ) (j : Job) → length (jobDone t line j .text) ≤ 234
-unfolding sent touched ticked bytes
+unfolding sent touched ticked renewed bytes
 job-within t line Send = command-short _ _ (command-within t (drop 2 line) (replicate 32 0))
 job-within t line (Touch c n) = omega (arith, plain-within (readingCall t c n .result))
 job-within t line (Wait n) = waited-short _ _
+job-within t line FourMotors = omega (arith, plain-within (freshCall t 1 .result))
 job-within t line Unknown = omega arith
 
-pub line-within : (t line : List ℕ) → length (lineDone t line .text) ≤ 235
+pub line-within : (first : Bool) (t line : List ℕ) → length (lineDone first t line .text) ≤ 235
 unfolding lineDone
-line-within t line = rw length-append (omega (arith, job-within t line (jobOf line)))
+line-within first t line = rw length-append (omega (arith, job-within t line (jobOf first line)))
 
 -- A line that sends a command has its letter and its blank.
-pub send-two : (s : List ℕ) → jobOf s ≡ Send → 2 ≤ length s
+pub send-two : (first : Bool) (s : List ℕ) → jobOf first s ≡ Send → 2 ≤ length s
 unfolding jobOf
-send-two [] e = let z : _≡_ {A = ℕ} 0 1 = cc in absurd (omega arith)
-send-two (k ∷ []) e = let z : _≡_ {A = ℕ} 0 1 = cc in absurd (omega arith)
-send-two (k ∷ b ∷ s) e = omega arith
+send-two first [] e = let z : _≡_ {A = ℕ} 0 1 = cc in absurd (omega arith)
+send-two first (k ∷ []) e = let z : _≡_ {A = ℕ} 0 1 = cc in absurd (omega arith)
+send-two first (k ∷ b ∷ s) e = omega arith
 
 -- A line that waits has 10000 ticks at most.
 touch-waits : (s : List ℕ) (n : ℕ) → touchOf s ≡ Wait n → ⊥
@@ -142,24 +142,33 @@ wait-few s n e =
         omega (arith, ticks-within (leb 1 (length s) && leb (length s) 5 && eqb (digitsAtFront s) (length s)) (getD s 0 0) (valueOf s) p)
     go false p e = let z : _≡_ {A = ℕ} 0 1 = cc in absurd (omega arith)
 
-lettered-few : (k : ℕ) (s : List ℕ) (n : ℕ) → lettered k s ≡ Wait n → n ≤ mostTicks
-unfolding lettered
-lettered-few k s n e = go (eqb k (code "C")) (eqb k (code "S")) (eqb k (code "T")) e
+card-waits : (first : Bool) (s : List ℕ) (n : ℕ) → cardOf first s ≡ Wait n → ⊥
+unfolding cardOf
+card-waits first s n e = go (eqb (length s) 1 && first && eqb (getD s 0 0) (code "1")) e
   where
-    go : (a b c : Bool) → cond a Send (cond b (touchOf s) (cond c (waitOf s) Unknown)) ≡ Wait n → n ≤ mostTicks
-    go true b c e = let z : _≡_ {A = ℕ} 0 1 = cc in absurd (omega arith)
-    go false true c e = absurd (touch-waits s n e)
-    go false false true e = wait-few s n e
-    go false false false e = let z : _≡_ {A = ℕ} 0 1 = cc in absurd (omega arith)
+    go : (t : Bool) → jobIf t FourMotors ≡ Wait n → ⊥
+    go true e = let z : _≡_ {A = ℕ} 0 1 = cc in omega arith
+    go false e = let z : _≡_ {A = ℕ} 0 1 = cc in omega arith
 
-pub waits-few : (s : List ℕ) (n : ℕ) → jobOf s ≡ Wait n → n ≤ mostTicks
-unfolding jobOf
-waits-few [] n e = let z : _≡_ {A = ℕ} 0 1 = cc in absurd (omega arith)
-waits-few (k ∷ []) n e = let z : _≡_ {A = ℕ} 0 1 = cc in absurd (omega arith)
-waits-few (k ∷ b ∷ s) n e = go (eqb b (code " ")) e
+lettered-few : (first : Bool) (k : ℕ) (s : List ℕ) (n : ℕ) → lettered first k s ≡ Wait n → n ≤ mostTicks
+unfolding lettered
+lettered-few first k s n e = go (eqb k (code "C")) (eqb k (code "S")) (eqb k (code "T")) (eqb k (code "K")) e
   where
-    go : (t : Bool) → jobIf t (lettered k s) ≡ Wait n → n ≤ mostTicks
-    go true e = lettered-few k s n e
+    go : (a b c d : Bool) → cond a Send (cond b (touchOf s) (cond c (waitOf s) (cond d (cardOf first s) Unknown))) ≡ Wait n → n ≤ mostTicks
+    go true b c d e = let z : _≡_ {A = ℕ} 0 1 = cc in absurd (omega arith)
+    go false true c d e = absurd (touch-waits s n e)
+    go false false true d e = wait-few s n e
+    go false false false true e = absurd (card-waits first s n e)
+    go false false false false e = let z : _≡_ {A = ℕ} 0 1 = cc in absurd (omega arith)
+
+pub waits-few : (first : Bool) (s : List ℕ) (n : ℕ) → jobOf first s ≡ Wait n → n ≤ mostTicks
+unfolding jobOf
+waits-few first [] n e = let z : _≡_ {A = ℕ} 0 1 = cc in absurd (omega arith)
+waits-few first (k ∷ []) n e = let z : _≡_ {A = ℕ} 0 1 = cc in absurd (omega arith)
+waits-few first (k ∷ b ∷ s) n e = go (eqb b (code " ")) e
+  where
+    go : (t : Bool) → jobIf t (lettered first k s) ≡ Wait n → n ≤ mostTicks
+    go true e = lettered-few first k s n e
     go false e = let z : _≡_ {A = ℕ} 0 1 = cc in absurd (omega arith)
 
 -- one of the ticks that are left

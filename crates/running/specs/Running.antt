@@ -4,12 +4,13 @@ use Prim.Native.Char.{code}
 use Prim.Native.Nat.{ℕ, zero, suc}
 use mathlib.Core.Path.{_≡_}
 use mathlib.Core.List.{List, [], _∷_, _++_}
+use mathlib.Core.Bool.{Bool}
 use lib.ListN.{drop, replicate}
 use Rattle.digits.specs.Places.{origin}
 use Rattle.text.specs.Text.{Wrote, bytes}
-use Rattle.urqolina.specs.Calls.{commandCall, readingCall, tickCall}
+use Rattle.urqolina.specs.Calls.{freshCall, commandCall, readingCall, tickCall}
 use Rattle.jobs.specs.declared.Job.{Job}
-use Rattle.jobs.specs.declared.Job.the-variants.{Send, Touch, Wait, Unknown}
+use Rattle.jobs.specs.declared.Job.the-variants.{Send, Touch, Wait, FourMotors, Unknown}
 use Rattle.jobs.specs.Jobs.{jobOf}
 use Rattle.jobs.specs.Texts.{plainText, commandText, netsAfter, waitedText}
 
@@ -59,15 +60,22 @@ ticked t n =
     let w = waited n (record { result = 0; table = t; nets = replicate 16 origin }) in
     record { table = w .table; text = waitedText (w .result) (w .nets) }
 
+-- K 1: a fresh call with the four-motor card, and its number; 02 §7: "which prints 0"
+unfoldable pub renewed : List ℕ → Printed
+renewed t =
+    let r = freshCall t 1 in
+    record { table = r .table; text = plainText (r .result) }
+
 -- by what the line asks for; "Any other line prints `?`"
 abbrev pub jobDone : List ℕ → List ℕ → Job → Printed
 jobDone t line Send = sent t (drop 2 line)
 jobDone t line (Touch c n) = touched t c n
 jobDone t line (Wait n) = ticked t n
+jobDone t line FourMotors = renewed t
 jobDone t line Unknown = record { table = t; text = bytes "?" }
 
--- a line by itself: its table, and its text with the line feed
-unfoldable pub lineDone : List ℕ → List ℕ → Printed
-lineDone t line =
-    let r = jobDone t line (jobOf line) in
+-- a line by itself, which is the first one or not: its table, and its text with the line feed
+unfoldable pub lineDone : Bool → List ℕ → List ℕ → Printed
+lineDone first t line =
+    let r = jobDone t line (jobOf first line) in
     record { table = r .table; text = r .text ++ (code "\n" ∷ []) }

@@ -9,6 +9,7 @@ use jobs::texts::write_command;
 use jobs::texts::write_number;
 use jobs::texts::write_waited;
 use urqolina::urqolina_command;
+use urqolina::urqolina_fresh;
 use urqolina::urqolina_reading;
 use urqolina::urqolina_tick;
 ghost use mathlib.Core.Path.{_≡_};
@@ -17,7 +18,7 @@ ghost use lib.ListN.{length, replicate};
 ghost use Rattle.digits.specs.Places.{origin};
 ghost use Rattle.jobs.specs.Bounds.{NetsWithin, mostNet, mostTicks, outSize};
 ghost use Rattle.jobs.specs.Jobs.{jobOf};
-ghost use Rattle.running.specs.Running.{Leaves, sent, touched, tickOf, waited, ticked, jobDone, lineDone};
+ghost use Rattle.running.specs.Running.{Leaves, sent, touched, tickOf, waited, ticked, renewed, jobDone, lineDone};
 
 // One tick, whose counts go to the nets. The pulse buffer is zeroed each time, so that a tick that is refused counts nothing.
 fn tick_once(table: &mut [u8], nets: &mut [u32]) -> u32
@@ -73,15 +74,25 @@ fn wait_line(table: &mut [u8], n: u32, out: &mut [u8]) -> usize
     write_waited(out, result, &nets)
 }
 
-// By what the line asks for.
-fn run_job(table: &mut [u8], line: &[u8], out: &mut [u8]) -> usize
+// K 1: a fresh table of the four-motor card.
+fn renew(table: &mut [u8], out: &mut [u8]) -> usize
     requires { ⌜ length (now out) ≡ outSize ⌝ }
-    ensures { λ r. ⌜ Leaves (jobDone (now (table .entry)) (now (line .entry)) (jobOf (now (line .entry)))) (now (table .exit)) (now (out .entry)) (now (out .exit)) r ⌝ }
+    ensures { λ r. ⌜ Leaves (renewed (now (table .entry))) (now (table .exit)) (now (out .entry)) (now (out .exit)) r ⌝ }
 {
-    match job_of(line) {
+    let result = urqolina_fresh(table, 1);
+    write_number(out, result)
+}
+
+// By what the line asks for.
+fn run_job(first: bool, table: &mut [u8], line: &[u8], out: &mut [u8]) -> usize
+    requires { ⌜ length (now out) ≡ outSize ⌝ }
+    ensures { λ r. ⌜ Leaves (jobDone (now (table .entry)) (now (line .entry)) (jobOf first (now (line .entry)))) (now (table .exit)) (now (out .entry)) (now (out .exit)) r ⌝ }
+{
+    match job_of(first, line) {
         Job::Send => send(table, &line[2..], out),
         Job::Touch(channel, contacts) => touch(table, channel, contacts, out),
         Job::Wait(n) => wait_line(table, n, out),
+        Job::FourMotors => renew(table, out),
         Job::Unknown => {
             out[0] = b'?';
             1
@@ -89,12 +100,12 @@ fn run_job(table: &mut [u8], line: &[u8], out: &mut [u8]) -> usize
     }
 }
 
-// A line by itself, with the line feed after its text.
-pub fn run_line(table: &mut [u8], line: &[u8], out: &mut [u8]) -> usize
+// A line by itself, which is the first one or not, with the line feed after its text.
+pub fn run_line(first: bool, table: &mut [u8], line: &[u8], out: &mut [u8]) -> usize
     requires { ⌜ length (now out) ≡ outSize ⌝ }
-    ensures { λ r. ⌜ Leaves (lineDone (now (table .entry)) (now (line .entry))) (now (table .exit)) (now (out .entry)) (now (out .exit)) r ⌝ }
+    ensures { λ r. ⌜ Leaves (lineDone first (now (table .entry)) (now (line .entry))) (now (table .exit)) (now (out .entry)) (now (out .exit)) r ⌝ }
 {
-    let n = run_job(table, line, out);
+    let n = run_job(first, table, line, out);
     out[n] = b'\n';
     n + 1
 }

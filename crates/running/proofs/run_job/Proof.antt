@@ -17,10 +17,10 @@ enum-told : tie.Need-enum-told
 enum-told c = search needs
 
 sub-send : tie.Need-sub-send
-sub-send c = omega (arith, send-two (now (c .before .before .before .before .before .before .before .args .line)) (sym (c .before .before .before .job-of .ensures) ∙ c .before .enum-told .given .1))
+sub-send c = omega (arith, send-two _ (now (c .before .before .before .before .before .before .before .args .line)) (sym (c .before .before .before .job-of .ensures) ∙ c .before .enum-told .given .1))
 
 part-send-start : tie.Need-part-send-start
-part-send-start c = omega (arith, send-two (now (c .before .before .before .before .before .before .before .args .line)) (sym (c .before .before .before .job-of .ensures) ∙ c .before .enum-told .given .1))
+part-send-start c = omega (arith, send-two _ (now (c .before .before .before .before .before .before .before .args .line)) (sym (c .before .before .before .job-of .ensures) ∙ c .before .enum-told .given .1))
 
 part-send-end : tie.Need-part-send-end
 part-send-end c = search needs
@@ -40,10 +40,16 @@ enum-known-n c = search needs
 wait-line-requires : tie.Need-wait-line-requires
 wait-line-requires c κs =
     let v = c .before .before .before .n .given in
-    (waits-few (now (c .before .before .before .before .before .before .before .before .before .args .line)) (v .0 .0) (sym (c .before .before .before .before .before .job-of .ensures) ∙ v .1), c .before .before .before .before .before .before .before .before .before .pre)
+    (waits-few _ (now (c .before .before .before .before .before .before .before .before .before .args .line)) (v .0 .0) (sym (c .before .before .before .before .before .job-of .ensures) ∙ v .1), c .before .before .before .before .before .before .before .before .before .pre)
 
 enum-told-2 : tie.Need-enum-told-2
 enum-told-2 c = search needs
+
+renew-requires : tie.Need-renew-requires
+renew-requires c κs = search needs
+
+enum-told-3 : tie.Need-enum-told-3
+enum-told-3 c = search needs
 
 slice-write-out : tie.Need-slice-write-out
 slice-write-out c = search needs
@@ -90,11 +96,23 @@ returns-3 c =
 same-length-7 : tie.Need-same-length-7
 same-length-7 c = search needs
 
+same-length-8 : tie.Need-same-length-8
+same-length-8 c = search needs
+
 returns-4 : tie.Need-returns-4
-unfolding bytes
 returns-4 c =
+    let k = c .before .before .before .before .before .before .before .before .before .job-of in
+    let e = sym (k .ensures) ∙ c .before .before .before .before .before .before .before .enum-told2 .given .1 in
+    rw e (c .before .before .before .before .renew .ensures)
+
+same-length-9 : tie.Need-same-length-9
+same-length-9 c = search needs
+
+returns-5 : tie.Need-returns-5
+unfolding bytes
+returns-5 c =
     let a = c .before .before .before .before .before .before .args in
-    let e = sym (c .before .before .job-of .ensures) ∙ c .enum-told2 .given .1 in
+    let e = sym (c .before .before .job-of .ensures) ∙ c .enum-told3 .given .1 in
     rw e (record { table = refl; text = record { count = refl; buffer = set-put (now (a .out)) 0 (code "?") (omega arith) } })
 
 pub run-job-spec : {M : Type 1} → statement M
@@ -112,6 +130,8 @@ run-job-spec =
     enum-known-n
     wait-line-requires
     enum-told-2
+    renew-requires
+    enum-told-3
     slice-write-out
     same-length
     same-length-2
@@ -123,4 +143,7 @@ run-job-spec =
     same-length-6
     returns-3
     same-length-7
-    returns-4)
+    same-length-8
+    returns-4
+    same-length-9
+    returns-5)

@@ -19,13 +19,13 @@ slice-write-out : tie.Need-slice-write-out
 slice-write-out c =
     let w = c .before .before .before .before .run-job .ensures .text .count in
     let a = c .before .before .before .before .before .before .before .before .before .before .args in
-    omega (arith, job-within (now (a .table)) (now (a .line)) (jobOf (now (a .line))))
+    omega (arith, job-within (now (a .table)) (now (a .line)) (jobOf (a .first) (now (a .line))))
 
 add-result : tie.Need-add-result
 add-result c =
     let w = c .before .before .before .before .run-job .ensures .text .count in
     let a = c .before .before .before .before .before .before .before .before .before .before .args in
-    omega (arith, job-within (now (a .table)) (now (a .line)) (jobOf (now (a .line))))
+    omega (arith, job-within (now (a .table)) (now (a .line)) (jobOf (a .first) (now (a .line))))
 
 same-length : tie.Need-same-length
 same-length c = search needs
@@ -38,8 +38,8 @@ unfolding lineDone
 returns c =
     let w = c .before .before .before .before .run-job .ensures in
     let a = c .before .before .before .before .before .before .before .before .before .before .args in
-    let text = jobDone (now (a .table)) (now (a .line)) (jobOf (now (a .line))) .text in
-    let fits : length text ≤ 234 = job-within (now (a .table)) (now (a .line)) (jobOf (now (a .line))) in
+    let text = jobDone (now (a .table)) (now (a .line)) (jobOf (a .first) (now (a .line))) .text in
+    let fits : length text ≤ 234 = job-within (now (a .table)) (now (a .line)) (jobOf (a .first) (now (a .line))) in
     record {
       table = w .table;
       text =

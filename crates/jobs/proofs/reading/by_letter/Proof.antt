@@ -13,6 +13,9 @@ touch-of-requires c κs = search needs
 wait-of-requires : tie.Need-wait-of-requires
 wait-of-requires c κs = search needs
 
+card-of-requires : tie.Need-card-of-requires
+card-of-requires c κs = search needs
+
 returns : tie.Need-returns
 unfolding lettered
 returns c = let e : c .before .before .args .k ≡ code "C" = c .match .keys1 in rw (eq-eqb _ _ e)
@@ -32,9 +35,15 @@ returns-3 c =
 returns-4 : tie.Need-returns-4
 unfolding lettered
 returns-4 c =
+    let e : c .before .before .before .args .k ≡ code "K" = c .before .match .keys4 in
+    rw (c .card-of .ensures, e)
+
+returns-5 : tie.Need-returns-5
+unfolding lettered
+returns-5 c =
     let r = c .match .rest in
-    rw (ne-eqb _ _ (r .0 .0 .1), ne-eqb _ _ (r .0 .1), ne-eqb _ _ (r .1))
+    rw (ne-eqb _ _ (r .0 .0 .0 .1), ne-eqb _ _ (r .0 .0 .1), ne-eqb _ _ (r .0 .1), ne-eqb _ _ (r .1))
 
 pub by-letter-spec : {M : Type 1} → statement M
 by-letter-spec =
-    tie.close (tie.spec touch-of-requires wait-of-requires returns returns-2 returns-3 returns-4)
+    tie.close (tie.spec touch-of-requires wait-of-requires card-of-requires returns returns-2 returns-3 returns-4 returns-5)

@@ -13,7 +13,7 @@ use Rattle.jobs.proofs.reading.job_of.Statement.{statement}
 use Rattle.jobs.proofs.reading.job_of.Tie as tie
 
 returns : tie.Need-returns
-returns c = sym (job-short _ (c .if1 .taken))
+returns c = sym (job-short _ _ (c .if1 .taken))
 
 shared-slice-read-if2 : tie.Need-shared-slice-read-if2
 shared-slice-read-if2 c = search needs
@@ -37,13 +37,13 @@ returns-2 : tie.Need-returns-2
 returns-2 c =
     let s = now (c .before .before .before .before .before .before .before .args .line) in
     let blank : getD s 1 0 ≡ code " " = c .before .before .before .if2 .taken in
-    rw (c .by-letter .ensures, whole-rest s 2, job-two s (omega arith), eq-eqb _ _ blank)
+    rw (c .by-letter .ensures, whole-rest s 2, job-two _ s (omega arith), eq-eqb _ _ blank)
 
 returns-3 : tie.Need-returns-3
 returns-3 c =
     let s = now (c .before .before .before .before .args .line) in
     let other : getD s 1 0 ≡ code " " → ⊥ = c .if2 .left in
-    rw (job-two s (omega arith), ne-eqb _ _ other)
+    rw (job-two _ s (omega arith), ne-eqb _ _ other)
 
 pub job-of-spec : {M : Type 1} → statement M
 job-of-spec =
