@@ -17,36 +17,40 @@ ghost use Prim.Native.Nat.{_≤_};
 ghost use lib.ListN.{length};
 ghost use Rattle.jobs.specs.Holding.{heldSize};
 
-// What stands between two reads: how many bytes of a line are held, and whether there is more to read.
+// What stands between two reads: whether the line is the first one, how many bytes of it are held, and whether there is more to read.
 struct Turn {
+    first: bool,
     held: usize,
     more: bool,
 }
 
 // Prints what some bytes of the input print. Where the output takes no more, nothing more is read.
-fn print_bytes(table: &mut [u8], line: &mut [u8], held: usize, bytes: &[u8]) -> Turn
+fn print_bytes(table: &mut [u8], line: &mut [u8], first: bool, held: usize, bytes: &[u8]) -> Turn
     requires { ⌜ (length (now line) ≡ heldSize) × (held ≤ heldSize) ⌝ }
     ensures { λ r. ⌜ r .held ≤ heldSize ⌝ }
 {
     let mut out = io::large_buffer();
+    let mut opening = first;
     let mut kept = held;
     let mut at: usize = 0;
     let mut more = true;
     while more && at < bytes.len() {
-        let run = take_run(table, line, kept, &bytes[at..], &mut out);
+        let run = take_run(table, line, opening, kept, &bytes[at..], &mut out);
         let n = run.count;
         more = io::write_all(STDOUT_FILENO, &out[..n]);
+        opening = run.first;
         kept = run.held;
         at += run.read;
     }
     Turn {
+        first: opening,
         held: kept,
         more: more,
     }
 }
 
 // Reads once, and prints what came.
-fn read_some(table: &mut [u8], line: &mut [u8], held: usize) -> Turn
+fn read_some(table: &mut [u8], line: &mut [u8], first: bool, held: usize) -> Turn
     requires { ⌜ (length (now line) ≡ heldSize) × (held ≤ heldSize) ⌝ }
     ensures { λ r. ⌜ r .held ≤ heldSize ⌝ }
 {
@@ -54,38 +58,45 @@ fn read_some(table: &mut [u8], line: &mut [u8], held: usize) -> Turn
     let got = libc::read(STDIN_FILENO, &mut input);
     if got <= 0 {
         return Turn {
+            first: first,
             held: held,
             more: false,
         };
     }
     let n = io::count(got, &input);
-    print_bytes(table, line, held, &input[..n])
+    print_bytes(table, line, first, held, &input[..n])
 }
 
-// Reads to the end, or to a read that fails, and answers how many bytes of the last line are held. A proved loop has to end, and
-// nothing says that the input does, so the turns are counted down from a number that no run uses up.
-fn read_all(table: &mut [u8], line: &mut [u8]) -> usize
+// Reads to the end, or to a read that fails, and answers how many bytes of the last line are held, and whether it is the first one. A
+// proved loop has to end, and nothing says that the input does, so the turns are counted down from a number that no run uses up.
+fn read_all(table: &mut [u8], line: &mut [u8]) -> Turn
     requires { ⌜ length (now line) ≡ heldSize ⌝ }
-    ensures { λ r. ⌜ r ≤ heldSize ⌝ }
+    ensures { λ r. ⌜ r .held ≤ heldSize ⌝ }
 {
+    let mut first = true;
     let mut held: usize = 0;
     let mut more = true;
     let mut turns = u64::MAX;
     while more && turns > 0 {
-        let turn = read_some(table, line, held);
+        let turn = read_some(table, line, first, held);
+        first = turn.first;
         held = turn.held;
         more = turn.more;
         turns -= 1;
     }
-    held
+    Turn {
+        first: first,
+        held: held,
+        more: false,
+    }
 }
 
 fn main() {
     let mut table = [0; 1088];
-    urqolina_fresh(&mut table);
+    urqolina_fresh(&mut table, 0);
     let mut line = [0u8; 96];
-    let held = read_all(&mut table, &mut line);
+    let last = read_all(&mut table, &mut line);
     let mut out = [0u8; 256];
-    let n = take_end(&mut table, &line, held, &mut out);
+    let n = take_end(&mut table, &line, last.first, last.held, &mut out);
     io::write_all(STDOUT_FILENO, &out[..n]);
 }

@@ -13,8 +13,8 @@ use Rattle.line.proofs.Laws.{too-long}
 use Rattle.table.specs.Layout.{tableSize}
 use Rattle.urqolina.specs.Calls.{commandCall, freshCall}
 use Rattle.jobs.specs.declared.Job.{Job}
-use Rattle.jobs.specs.declared.Job.the-variants.{Send, Touch, Wait, Unknown}
-use Rattle.jobs.specs.Jobs.{jobIf, joined, linesOf, touchOf, waitOf, lettered, jobOf}
+use Rattle.jobs.specs.declared.Job.the-variants.{Send, Touch, Wait, FourMotors, Unknown}
+use Rattle.jobs.specs.Jobs.{jobIf, joined, linesOf, touchOf, waitOf, cardOf, lettered, jobOf}
 use Rattle.jobs.specs.Holding.{heldOf, kept}
 use Rattle.running.specs.Running.{sent, jobDone, lineDone}
 use Rattle.script.specs.Output.{printed, bench}
@@ -29,7 +29,7 @@ long-sent : (t a b : List ℕ) → 80 < length a → 80 < length b → sent t a 
 unfolding sent
 long-sent t a b h l = rw (long-command t a b (replicate 32 0) h l)
 
--- A long line is neither `S x n` nor `T n`.
+-- A long line is none of `S x n`, `T n` and `K 1`.
 long-touch : (s : List ℕ) → 80 < length s → touchOf s ≡ Unknown
 unfolding touchOf
 long-touch s h = rw (ne-eqb (length s) 3 (λ e. omega arith))
@@ -38,24 +38,28 @@ long-wait : (s : List ℕ) → 80 < length s → waitOf s ≡ Unknown
 unfolding waitOf
 long-wait s h = rw (le-leb 1 (length s) (omega arith), lt-leb (length s) 5 (omega arith))
 
+long-card : (first : Bool) (s : List ℕ) → 80 < length s → cardOf first s ≡ Unknown
+unfolding cardOf
+long-card first s h = rw (ne-eqb (length s) 1 (λ e. omega arith))
+
 -- What stands after the letter and its blank may be cut anywhere past 80 bytes.
-long-letter : (k : ℕ) (a b : List ℕ) → 80 < length a → 80 < length b → lettered k a ≡ lettered k b
+long-letter : (first : Bool) (k : ℕ) (a b : List ℕ) → 80 < length a → 80 < length b → lettered first k a ≡ lettered first k b
 unfolding lettered
-long-letter k a b h l = rw (long-touch a h, long-touch b l, long-wait a h, long-wait b l)
+long-letter first k a b h l = rw (long-touch a h, long-touch b l, long-wait a h, long-wait b l, long-card first a h, long-card first b l)
 
 -- So a line asks for the same as what is held of it
-held-job : (s : List ℕ) → jobOf (heldOf s) ≡ jobOf s
+held-job : (first : Bool) (s : List ℕ) → jobOf first (heldOf s) ≡ jobOf first s
 unfolding jobOf
-held-job [] = refl
-held-job (k ∷ []) = refl
-held-job (k ∷ b ∷ s) = go (leb (length s) 94) refl
+held-job first [] = refl
+held-job first (k ∷ []) = refl
+held-job first (k ∷ b ∷ s) = go (leb (length s) 94) refl
   where
     go : (t : Bool) → leb (length s) 94 ≡ t
-        → jobIf (eqb b (code " ")) (lettered k (take 94 s)) ≡ jobIf (eqb b (code " ")) (lettered k s)
+        → jobIf (eqb b (code " ")) (lettered first k (take 94 s)) ≡ jobIf (eqb b (code " ")) (lettered first k s)
     go true e = rw (take-all 94 s (leb-true (length s) 94 e))
     go false e =
         let l : length (take 94 s) ≡ 94 = length-take-le 94 s (omega (arith, leb-false (length s) 94 e)) in
-        rw (long-letter k (take 94 s) s (omega arith) (omega (arith, leb-false (length s) 94 e)))
+        rw (long-letter first k (take 94 s) s (omega arith) (omega (arith, leb-false (length s) 94 e)))
 
 same-done : (t s : List ℕ) (j : Job) → jobDone t (heldOf s) j ≡ jobDone t s j
 same-done t s Send = go (leb (length s) 96) refl
@@ -69,11 +73,12 @@ same-done t s Send = go (leb (length s) 96) refl
         (rw length-drop (omega (arith, leb-false (length s) 96 e)))
 same-done t s (Touch c n) = refl
 same-done t s (Wait n) = refl
+same-done t s FourMotors = refl
 same-done t s Unknown = refl
 
 -- and what is held of it is answered as the line is.
-pub held-done : (t s : List ℕ) → jobDone t (heldOf s) (jobOf (heldOf s)) ≡ jobDone t s (jobOf s)
-held-done t s = rw (held-job s) (same-done t s (jobOf s))
+pub held-done : (first : Bool) (t s : List ℕ) → jobDone t (heldOf s) (jobOf first (heldOf s)) ≡ jobDone t s (jobOf first s)
+held-done first t s = rw (held-job first s) (same-done t s (jobOf first s))
 
 -- What is held with one more byte is what is held of the line with that byte.
 pub kept-held : (s : List ℕ) (b : ℕ) → kept (heldOf s) b ≡ heldOf (s ++ (b ∷ []))
@@ -107,41 +112,41 @@ after-end b [] = refl
 after-end b (a ∷ s) = rw (after-end a s)
 
 -- A line by itself prints as it does among others.
-line-first : (t s : List ℕ) (ls : List (List ℕ))
-    → printed t (s ∷ ls) ≡ lineDone t (heldOf s) .text ++ printed (lineDone t (heldOf s) .table) ls
+line-first : (first : Bool) (t s : List ℕ) (ls : List (List ℕ))
+    → printed first t (s ∷ ls) ≡ lineDone first t (heldOf s) .text ++ printed false (lineDone first t (heldOf s) .table) ls
 unfolding printed lineDone
-line-first t s ls = rw (held-done t s, append-assoc)
+line-first first t s ls = rw (held-done first t s, append-assoc)
 
-none-printed : (t : List ℕ) → printed t [] ≡ []
+none-printed : (first : Bool) (t : List ℕ) → printed first t [] ≡ []
 unfolding printed
-none-printed t = refl
+none-printed first t = refl
 
 -- The end of the input ends a line that has a byte, and no other.
-at-end : (t s : List ℕ) → endRead t (heldOf s) ≡ printed t (after s [])
+at-end : (first : Bool) (t s : List ℕ) → endRead first t (heldOf s) ≡ printed first t (after s [])
 unfolding endRead
-at-end t [] = sym (none-printed t)
-at-end t (b ∷ s) =
-    rw (after-end b s, line-first t (b ∷ s) [], none-printed (lineDone t (heldOf (b ∷ s)) .table), append-nil)
+at-end first t [] = sym (none-printed first t)
+at-end first t (b ∷ s) =
+    rw (after-end b s, line-first first t (b ∷ s) [], none-printed false (lineDone first t (heldOf (b ∷ s)) .table), append-nil)
 
 -- The rest of an input, from what is held of a line, prints what the whole lines print.
-from-held : (input t s : List ℕ) → streamed t (heldOf s) input ≡ printed t (after s (linesOf input))
+from-held : (input : List ℕ) (first : Bool) (t s : List ℕ) → streamed first t (heldOf s) input ≡ printed first t (after s (linesOf input))
 unfolding streamed linesOf byteRead
-from-held [] t s = at-end t s
-from-held (b ∷ input) t s = go (eqb b (code "\n")) (from-held input)
+from-held [] first t s = at-end first t s
+from-held (b ∷ input) first t s = go (eqb b (code "\n")) (from-held input)
   where
     ended : Stepped
-    ended = record { table = lineDone t (heldOf s) .table; held = []; text = lineDone t (heldOf s) .text }
+    ended = record { first = false; table = lineDone first t (heldOf s) .table; held = []; text = lineDone first t (heldOf s) .text }
 
     more : Stepped
-    more = record { table = t; held = kept (heldOf s) b; text = [] }
+    more = record { first = first; table = t; held = kept (heldOf s) b; text = [] }
 
-    go : (u : Bool) → ((t s : List ℕ) → streamed t (heldOf s) input ≡ printed t (after s (linesOf input)))
-        → cond u ended more .text ++ streamed (cond u ended more .table) (cond u ended more .held) input
-        ≡ printed t (after s (cond u ([] ∷ linesOf input) (joined b (linesOf input))))
-    go true rest = rw (after-line s (linesOf input), line-first t s (linesOf input), ← rest (lineDone t (heldOf s) .table) [])
-    go false rest = rw (kept-held s b, rest t (s ++ (b ∷ [])), after-more s b (linesOf input))
+    go : (u : Bool) → ((first : Bool) (t s : List ℕ) → streamed first t (heldOf s) input ≡ printed first t (after s (linesOf input)))
+        → cond u ended more .text ++ streamed (cond u ended more .first) (cond u ended more .table) (cond u ended more .held) input
+        ≡ printed first t (after s (cond u ([] ∷ linesOf input) (joined b (linesOf input))))
+    go true rest = rw (after-line s (linesOf input), line-first first t s (linesOf input), ← rest false (lineDone first t (heldOf s) .table) [])
+    go false rest = rw (kept-held s b, rest first t (s ++ (b ∷ [])), after-more s b (linesOf input))
 
 -- bench, a byte at a time: from the fresh table and nothing held, the texts of the steps one after the other are what it prints.
-pub bench-streamed : (input : List ℕ) → streamed (freshCall (replicate tableSize 0) .table) [] input ≡ bench input
+pub bench-streamed : (input : List ℕ) → streamed true (freshCall (replicate tableSize 0) 0 .table) [] input ≡ bench input
 unfolding bench
-bench-streamed input = from-held input (freshCall (replicate tableSize 0) .table) []
+bench-streamed input = from-held input true (freshCall (replicate tableSize 0) 0 .table) []

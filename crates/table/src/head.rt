@@ -97,7 +97,11 @@ fn most_busy(card: u8) -> u32
 pub fn is_full(h: Head) -> bool
     ensures { λ r. ⌜ r ≡ full h ⌝ }
 {
-    if h.card == 0 { h.busy == 65535 } else { most_busy(h.card) <= count(h.busy) }
+    if h.card == 0 {
+        h.busy == 65535
+    } else {
+        most_busy(h.card) <= count(h.busy)
+    }
 }
 
 // The head with one field set, and the others as they were.
@@ -138,7 +142,11 @@ pub fn with_pause(h: Head, k: u8) -> Head
 fn is_few(card: u8, set: u16) -> bool
     ensures { λ r. ⌜ r ≡ leb (bitsSet set) (mostBusy card) ⌝ }
 {
-    if card == 0 { true } else { count(set) <= most_busy(card) }
+    if card == 0 {
+        true
+    } else {
+        count(set) <= most_busy(card)
+    }
 }
 
 // Whether the fields of a head are in their ranges.

@@ -11,11 +11,11 @@ use Rattle.bench.proofs.print_bytes.Statement.{statement}
 use Rattle.bench.proofs.print_bytes.Tie as tie
 
 abbrev Inv-loop : tie.InvT-loop
-Inv-loop table₀ line₀ held bytes out₀ kept₀ at₀ more₀ table line out kept at more =
+Inv-loop table₀ line₀ first held bytes out₀ opening₀ kept₀ at₀ more₀ table line out opening kept at more =
     (length table ≡ length table₀) × (length line ≡ heldSize) × (length out ≡ 65536) × (kept ≤ heldSize) × (at ≤ length bytes)
 
 abbrev μ-loop : tie.MeasureT-loop
-μ-loop table₀ line₀ held bytes out₀ kept₀ at₀ more₀ table line out kept at more = length bytes - at
+μ-loop table₀ line₀ first held bytes out₀ opening₀ kept₀ at₀ more₀ table line out opening kept at more = length bytes - at
 
 large-buffer-requires : tie.Need-large-buffer-requires Inv-loop μ-loop
 large-buffer-requires c κs = search needs

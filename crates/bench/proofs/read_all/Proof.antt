@@ -10,10 +10,10 @@ use Rattle.bench.proofs.read_all.Statement.{statement}
 use Rattle.bench.proofs.read_all.Tie as tie
 
 abbrev Inv-loop : tie.InvT-loop
-Inv-loop table₀ line₀ held₀ more₀ turns₀ table line held more turns = (length table ≡ length table₀) × (length line ≡ heldSize) × (held ≤ heldSize)
+Inv-loop table₀ line₀ first₀ held₀ more₀ turns₀ table line first held more turns = (length table ≡ length table₀) × (length line ≡ heldSize) × (held ≤ heldSize)
 
 abbrev μ-loop : tie.MeasureT-loop
-μ-loop table₀ line₀ held₀ more₀ turns₀ table line held more turns = turns
+μ-loop table₀ line₀ first₀ held₀ more₀ turns₀ table line first held more turns = turns
 
 loop-holds : tie.Need-loop-holds Inv-loop μ-loop
 loop-holds c = (refl, c .before .before .pre, omega arith)

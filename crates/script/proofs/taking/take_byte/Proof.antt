@@ -34,7 +34,7 @@ returns : tie.Need-returns
 unfolding byteRead
 returns c =
     let w = c .before .before .before .before .run-line .ensures in
-    rw (eq-eqb _ _ (c .before .before .before .before .before .before .before .before .if1 .taken)) (record { table = w .table; held = refl; text = w .text }, omega arith)
+    rw (eq-eqb _ _ (c .before .before .before .before .before .before .before .before .if1 .taken)) (record { first = refl; table = w .table; held = refl; text = w .text }, omega arith)
 
 same-length-4 : tie.Need-same-length-4
 same-length-4 c = search needs
@@ -43,7 +43,7 @@ returns-2 : tie.Need-returns-2
 unfolding byteRead
 returns-2 c =
     let w = c .before .before .keep .ensures in
-    rw (ne-eqb _ _ (c .before .before .before .before .if1 .left)) (record { table = refl; held = w .0; text = record { count = refl; buffer = sym (put-none _ 0) } }, w .1)
+    rw (ne-eqb _ _ (c .before .before .before .before .if1 .left)) (record { first = refl; table = refl; held = w .0; text = record { count = refl; buffer = sym (put-none _ 0) } }, w .1)
 
 pub take-byte-spec : {M : Type 1} → statement M
 take-byte-spec =

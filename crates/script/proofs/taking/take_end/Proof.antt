@@ -36,7 +36,7 @@ returns-2 c =
     let part = take (a .held) (now (a .line)) in
     let e : length part ≡ a .held = length-take-le (a .held) (now (a .line)) (omega arith) in
     let w = c .before .before .before .before .run-line .ensures .text in
-    (rw (end-some (now (a .table)) part (omega arith)) w, omega (arith, w .count, line-within (now (a .table)) part))
+    (rw (end-some (a .first) (now (a .table)) part (omega arith)) w, omega (arith, w .count, line-within (a .first) (now (a .table)) part))
 
 pub take-end-spec : {M : Type 1} → statement M
 take-end-spec =

@@ -17,7 +17,7 @@ use Rattle.script.proofs.taking.take_run.Statement.{statement}
 use Rattle.script.proofs.taking.take_run.Tie as tie
 
 abbrev Inv-loop : tie.InvT-loop
-Inv-loop table₀ line₀ held bytes out₀ kept₀ read₀ count₀ table line out kept read count =
+Inv-loop table₀ line₀ first held bytes out₀ opening₀ kept₀ read₀ count₀ table line out opening kept read count =
     (length table ≡ length table₀)
     × (length line ≡ heldSize)
     × (length out ≡ length out₀)
@@ -25,15 +25,15 @@ Inv-loop table₀ line₀ held bytes out₀ kept₀ read₀ count₀ table line 
     × (read ≤ length bytes)
     × (count ≤ length out₀)
     × (count ≤ outSize * read)
-    × Prints table₀ (take held line₀) bytes (take count out) table (take kept line) (drop read bytes)
+    × Prints first table₀ (take held line₀) bytes (take count out) opening table (take kept line) (drop read bytes)
 
 abbrev μ-loop : tie.MeasureT-loop
-μ-loop table₀ line₀ held bytes out₀ kept₀ read₀ count₀ table line out kept read count = length bytes - read
+μ-loop table₀ line₀ first held bytes out₀ opening₀ kept₀ read₀ count₀ table line out opening kept read count = length bytes - read
 
 loop-holds : tie.Need-loop-holds Inv-loop μ-loop
 loop-holds c =
     let a = c .before .before .before .before .args in
-    (refl, c .before .before .before .before .pre .0, refl, omega arith, omega arith, omega arith, omega arith, prints-none (now (a .table)) (take (a .held) (now (a .line))) (now (a .bytes)))
+    (refl, c .before .before .before .before .pre .0, refl, omega arith, omega arith, omega arith, omega arith, prints-none (a .first) (now (a .table)) (take (a .held) (now (a .line))) (now (a .bytes)))
 
 sub-if1 : tie.Need-sub-if1 Inv-loop μ-loop
 sub-if1 c = omega arith
@@ -62,7 +62,7 @@ add-count : tie.Need-add-count Inv-loop μ-loop
 add-count c =
     let l = c .before .before .before .before .before .before .before .before .before .before .before .before .before .before .loop in
     let a = c .before .before .before .before .before .before .before .before .before .before .before .before .before .before .before .before .before .before .before .args in
-    omega (arith, c .before .before .before .before .before .before .before .take-byte .ensures .0 .text .count, byte-within (l .table) (take (l .kept) (l .line)) (getD (now (a .bytes)) (l .read) 0))
+    omega (arith, c .before .before .before .before .before .before .before .take-byte .ensures .0 .text .count, byte-within (l .opening) (l .table) (take (l .kept) (l .line)) (getD (now (a .bytes)) (l .read) 0))
 
 add-read : tie.Need-add-read Inv-loop μ-loop
 add-read c = omega arith
@@ -75,23 +75,23 @@ loop-again c =
     let w = c .before .before .before .before .before .before .before .take-byte in
     let l = c .before .before .before .before .before .before .before .before .before .before .before .before .before .before .loop in
     let a = c .before .before .before .before .before .before .before .before .before .before .before .before .before .before .before .before .before .before .before .args in
-    let r = byteRead (l .table) (take (l .kept) (l .line)) (getD (now (a .bytes)) (l .read) 0) in
-    let few : length (r .text) ≤ 235 = byte-within (l .table) (take (l .kept) (l .line)) (getD (now (a .bytes)) (l .read) 0) in
+    let r = byteRead (l .opening) (l .table) (take (l .kept) (l .line)) (getD (now (a .bytes)) (l .read) 0) in
+    let few : length (r .text) ≤ 235 = byte-within (l .opening) (l .table) (take (l .kept) (l .line)) (getD (now (a .bytes)) (l .read) 0) in
     let n : w .result .count ≡ length (r .text) = w .ensures .0 .text .count in
     let room : l .count + 256 ≤ length (l .out) = omega (arith, leb-true) in
     let none : l .count + 0 ≡ l .count = omega arith in
     let lent = take (l .count + 256 - l .count) (drop (l .count) (l .out)) in
     let back : take (l .count) (l .out) ++ (put lent 0 (r .text) ++ drop (l .count + 256 - l .count) (drop (l .count) (l .out))) ≡ put (l .out) (l .count) (r .text) =
     rw none at (put-part (l .out) (r .text) (l .count) (l .count + 256 - l .count) 0 (omega arith) (omega arith)) in
-    let next = prints-more (now (a .table)) (take (a .held) (now (a .line))) (now (a .bytes)) (take (l .count) (l .out)) (l .table) (take (l .kept) (l .line)) (l .read) (omega arith) (l .inv .7) in (
+    let next = prints-more (a .first) (now (a .table)) (take (a .held) (now (a .line))) (now (a .bytes)) (take (l .count) (l .out)) (l .opening) (l .table) (take (l .kept) (l .line)) (l .read) (omega arith) (l .inv .7) in (
       w .kept .0 ∙ l .inv .0,
       w .kept .1 .0 ∙ l .inv .1,
-      same-len-mid (l .count) (l .count + 256 - l .count) (l .out) (w .last .1 .1 .1 .1 .0) (w .kept .1 .1 .1 .1 .0) ∙ l .inv .2,
+      same-len-mid (l .count) (l .count + 256 - l .count) (l .out) (w .last .1 .1 .1 .1 .1 .0) (w .kept .1 .1 .1 .1 .1 .0) ∙ l .inv .2,
       w .ensures .1,
       omega arith,
       omega arith,
       omega arith,
-      rw (w .ensures .0 .text .buffer, back, w .ensures .0 .table, w .ensures .0 .held, n, front-more (l .out) (r .text) (l .count) (omega arith)) next,
+      rw (w .ensures .0 .text .buffer, back, w .ensures .0 .first, w .ensures .0 .table, w .ensures .0 .held, n, front-more (l .out) (r .text) (l .count) (omega arith)) next,
     )
 
 same-length : tie.Need-same-length Inv-loop μ-loop
