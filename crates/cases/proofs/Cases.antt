@@ -1,6 +1,6 @@
 -- The calls computed on cases beyond document 01's marked ones: the order of the refusals, the replies, settings read back,
--- bare numbers, switch readings, contacts that are unknown, drives that are held, the busy set, the four-motor card, and inputs that no call may take. Each
--- list is one statement, and its proof is the computation.
+-- bare numbers, switch readings, contacts that are unknown, drives that are held, the busy set, the four-motor card, and inputs that no call
+-- may take. Each list is one statement, and its proof is the computation.
 use mathlib.Core.Path.{_≡_, refl}
 use mathlib.Core.List.{List, [], _∷_, _++_, map}
 use Prim.Native.Nat.{ℕ}

@@ -34,7 +34,7 @@ use Rattle.line.specs.declared.Order.the-variants.{Go, Stop, ChangeSpeed, Set, 
 use Rattle.line.specs.declared.Parsed.the-variants.{Is, Nothing}
 use Rattle.line.specs.Forms.{ssend, orderOf}
 use Rattle.table.specs.declared.head.Head.{Head}
-use Rattle.table.specs.Layout.{headOf, headBytes, headRest, paused, full, withHead, withMode, withReply, withErrors, withPause, withBusy, motorAt, sealed, withMotor, withMotors, freshTable}
+use Rattle.table.specs.Layout.{headOf, headBytes, headRest, paused, cardFull, withHead, withMode, withReply, withErrors, withPause, withBusy, motorAt, sealed, withMotor, withMotors, freshTable}
 use Rattle.table.specs.Sound.{soundTable}
 use Rattle.commands.specs.Judging.{judge}
 use Rattle.commands.specs.Changing.{flagged}
@@ -946,7 +946,7 @@ abbrev pub fullAtThree : List ℕ → List ℕ → ℕ → ℕ
 fullAtThree t line n = cond (eqb n 0 && isSome starting (orderOf line) && leb 3 (bitsSet (headOf t .busy))) 14 n
 
 abbrev pub fullBefore : ℕ → List ℕ → List ℕ → ℕ → ℕ
-fullBefore k t line n = cond (eqb n k && isSome starting (orderOf line) && full (headOf t)) 14 n
+fullBefore k t line n = cond (eqb n k && isSome starting (orderOf line) && cardFull (headOf t)) 14 n
 
 pub full-turned-refused : (Numbers (renumbers fullAtThree) → ⊥) × (Numbers (renumbers (fullBefore 0)) → ⊥)
     × (Numbers (renumbers (fullBefore 2)) → ⊥) × (Numbers (renumbers (fullBefore 9)) → ⊥)
@@ -956,6 +956,22 @@ full-turned-refused = (
   renumbered-other (fullBefore 0) (motorsBusy 4) (bytes "REL4+0") (Go 4 (Rel (record { minus = false; digits = 0 }))) 0 14 refl refl refl refl refl (omega arith) (omega arith),
   renumbered-other (fullBefore 2) (motorsBusy 4) (bytes "SCANP0") (Go 0 (Scan cw)) 2 14 refl refl refl refl refl (omega arith) (omega arith),
   renumbered-other (fullBefore 9) (motorsBusy 4) (bytes "SCANP5") (Go 5 (Scan cw)) 9 14 refl refl refl refl refl (omega arith) (omega arith),
+)
+
+-- 14 given to SPC, which is no start; and on the sixteen-motor card, to what another cause refuses.
+abbrev pub fullFor : ℕ → List ℕ → List ℕ → ℕ → ℕ
+fullFor k t line n = cond (eqb n k) 14 n
+
+pub full-elsewhere-refused : (Numbers (renumbers (fullFor 13)) → ⊥) × (Numbers (renumbers (fullFor 9)) → ⊥)
+unfolding computing-laws
+full-elsewhere-refused = (
+  (λ d.
+      absurd (false≢true (d .starts (motorsBusy 4) (bytes "SPC4500") (replicate 32 0xaa) 14 (omega arith) (omega arith)
+      (renumbered (fullFor 13) (motorsBusy 4) (bytes "SPC4500") (ChangeSpeed 4 500) 13 14 refl refl refl refl refl (omega arith))))),
+  (λ d.
+      let fact : _≡_ {A = ℕ} 0 1 = d .fourteen unreadTable (bytes "SCANP0") (replicate 32 0xaa)
+      (renumbered (fullFor 9) unreadTable (bytes "SCANP0") (Go 0 (Scan cw)) 9 14 refl refl refl refl refl (omega arith)) in
+      absurd (omega (arith, fact))),
 )
 
 -- `STQ?` answered on the sixteen-motor card, where it is 1; or with the number of those that are busy: R4 for R0.
@@ -968,6 +984,27 @@ pub free-everywhere-refused : Numbers (answersFree (λ h. code "R" ∷ digitByte
 unfolding computing-laws
 free-everywhere-refused n =
     let fact : _≡_ {A = ℕ} 0 1 = n .formless (freshTable 0) (bytes "STQ?") (replicate 32 0) refl refl refl in
+    absurd (omega (arith, fact))
+
+-- The same seen after fresh, by the drives that the accounts know.
+pub free-shared-refused : (AllShared (answersFree (λ h. code "L" ∷ digitByte (bitsSet (h .busy)) ∷ [])) → ⊥)
+    × (AllShared (answersFree (λ h. code "L" ∷ digitByte (4 - bitsSet (h .busy)) ∷ [])) → ⊥)
+unfolding computing-laws
+free-shared-refused = (
+  (λ d.
+      let told = d lentFour [] .free (bytes "STQ?") (replicate 32 0) (omega arith) refl refl in
+      let fact : _≡_ {A = ℕ} (code "0") (code "4") = ap (λ (a : After). getD (a .buffer) 1 0) told in
+      absurd (omega (arith, fact))),
+  (λ d.
+      let fact : _≡_ {A = ℕ} 0 1 = d lent [] .formless (bytes "STQ?") (replicate 32 0) (omega arith) refl refl in
+      absurd (omega (arith, fact))),
+)
+
+-- or with the letter R in local mode, after an accepted LOC.
+pub free-letter-refused : AllReadsBack (answersFree (λ h. code "R" ∷ digitByte (4 - bitsSet (h .busy)) ∷ [])) → ⊥
+unfolding computing-laws
+free-letter-refused d =
+    let fact : _≡_ {A = ℕ} (code "R") (code "L") = d lentFour [] (says "LOC") [] (bytes "STQ?") (replicate 32 0) (omega arith) .modeFree 0 refl refl refl refl in
     absurd (omega (arith, fact))
 
 pub free-turned-refused : AllReplies (answersFree (λ h. code "R" ∷ digitByte (bitsSet (h .busy)) ∷ [])) → ⊥
@@ -991,6 +1028,12 @@ fresh-card-refused = (
       let fact : _≡_ {A = ℕ} 0 5 = ap (λ (a : TableAfter). a .result) (n .freshRefused (replicate 1088 0) 256 (λ h. absurd (omega (arith, h .1)))) in
       absurd (omega (arith, fact))),
 )
+
+pub kept-card-refused : AllShared (freshAs (λ b n. cond (eqb (getD b 6 0) 0xaa) 0 n)) → ⊥
+unfolding computing-laws
+kept-card-refused d =
+    let fact : _≡_ {A = ℕ} 0 1 = d lentFour [] .card in
+    absurd (omega (arith, fact))
 
 abbrev pub turnsCard : Library
 turnsCard =

@@ -11,7 +11,7 @@ use Rattle.line.specs.declared.Order.{Order}
 use Rattle.line.specs.declared.Order.the-variants.{Go, Stop, StopAll, ChangeSpeed, Set, Ask, AskHead, ForHead}
 use Rattle.orders.specs.Values.{needsRemote, valueInRange}
 use Rattle.orders.specs.Settings.{courseOf}
-use Rattle.table.specs.Layout.{headOf, full, motorAt}
+use Rattle.table.specs.Layout.{headOf, cardFull, motorAt}
 
 -- "a start, setting or speed selection (not SPC) of a driving channel"
 unfoldable pub meetsBusy : List ℕ → Order → Bool
@@ -47,4 +47,4 @@ judgeWhere full t o =
 
 -- 02 §7: "the number of set bits in the busy word decides whether a start is taken"
 unfoldable pub judge : List ℕ → Order → Verdict
-judge t o = judgeWhere (full (headOf t)) t o
+judge t o = judgeWhere (cardFull (headOf t)) t o

@@ -25,7 +25,7 @@ ghost use Rattle.line.specs.Forms.{hasForm};
 ghost use Rattle.line.specs.Made.{orderMade};
 ghost use Rattle.orders.specs.Values.{startInRange, valueInRange};
 ghost use Rattle.orders.specs.Settings.{courseOf};
-ghost use Rattle.table.specs.Layout.{tableSize, headOf, full};
+ghost use Rattle.table.specs.Layout.{tableSize, headOf, cardFull};
 ghost use Rattle.commands.specs.Judging.{meetsBusy, judgeMotor, judge};
 
 // A start: busy on a driving channel, else as the motor allows and then the card.
@@ -54,7 +54,7 @@ fn judge_set(m: Motor) -> Verdict
 // What is judged of the channel that an order names, if it names one.
 fn judge_channel(t: &[u8], o: Order) -> Verdict
     requires { ⌜ (length (now t) ≡ tableSize) × (orderMade o ≡ true) × (valueInRange o ≡ true) ⌝ }
-    ensures { λ r. ⌜ r ≡ cond (meetsBusy (now (t .entry)) o) Busy (judgeMotor (full (headOf (now (t .entry)))) (now (t .entry)) o) ⌝ }
+    ensures { λ r. ⌜ r ≡ cond (meetsBusy (now (t .entry)) o) Busy (judgeMotor (cardFull (headOf (now (t .entry)))) (now (t .entry)) o) ⌝ }
 {
     match o {
         Order::Go(x, s) => judge_go(is_full(read_head(t)), motor_at(t, x), s),

@@ -45,6 +45,6 @@ unfoldable pub howMany : (ℕ → Bool) → ℕ → ℕ
 howMany f zero = 0
 howMany f (suc k) = cond (f 0) 1 0 + howMany (λ i. f (suc i)) k
 
--- how many of the sixteen bits of a word are set
+-- how many of the sixteen bits of a word are set; 02 §7: "the number of set bits in the busy word"
 abbrev pub bitsSet : ℕ → ℕ
 bitsSet n = onesIn 16 n

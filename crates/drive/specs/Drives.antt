@@ -55,7 +55,7 @@ hindrance full m going =
     (cond full Full
     Done)))))
 
--- of a stopped motor: "target out of range (3, for REL and JOG ..), the other causes of 4", which 02 §5 numbers 8 to 12; ABS to the
+-- of a stopped motor: "target out of range (3, for REL and JOG ..), the other causes of 4", which 02 §5 numbers 8 to 12, and 02 §7's 14; ABS to the
 -- present position and REL 0 "meet no later check"
 unfoldable pub judgeStart : Bool → Motor → Course → Verdict
 judgeStart full m Stay = Done

@@ -12,7 +12,8 @@ use Rattle.drive.specs.declared.Verdict.the-variants.{Done, NoForm, Busy
 -- 3 "form right, value outside its range";
 -- 4 "local mode; A = 0; an active enabled switch ahead; no room; SPC on a stopped motor": 02 §5 "Split 4 by cause", and it "is no
 -- longer given";
--- 5 "table not 1,088 bytes, reply buffer under 32, pulse buffer not 64, channel over 15, contacts over 7";
+-- 5 "table not 1,088 bytes, reply buffer under 32, pulse buffer not 64, channel over 15, contacts over 7"; 02 §7: "a card number
+-- over 1 at fresh is 5";
 -- 6 "table not sound";
 -- 02 §5: "7 local mode, 8 motor disabled, 9 contacts unread, 10 enabled switch active ahead, 11 no room because of a digital limit, 12
 -- no room because of the end of the range .., 13 SPC on a stopped motor";

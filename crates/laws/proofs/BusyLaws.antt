@@ -1,4 +1,4 @@
--- Which deeds set a motor off: none but a start that does, and that where the card is not full. Assumes nothing.
+-- Which deeds set a motor off: none but a start that does. Assumes nothing.
 use mathlib.Core.Path.{_≡_, refl, sym, ap, _∙_}
 use mathlib.Core.Bool.{Bool, true, false, _&&_, cond, false≢true}
 use Prim.Native.Nat.{ℕ}

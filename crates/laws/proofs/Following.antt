@@ -31,7 +31,7 @@ use Rattle.orders.specs.Values.{needsRemote, valueInRange}
 use Rattle.orders.specs.Settings.{directionOf, courseOf}
 use Rattle.digits.specs.Places.{origin}
 use Rattle.digits.specs.Words.{withoutBit}
-use Rattle.table.specs.Layout.{tableSize, headOf, full, withHead, withMode, withReply, withErrors, withPause, motorAt, busySet, withMotor, withMotors}
+use Rattle.table.specs.Layout.{tableSize, headOf, cardFull, withHead, withMode, withReply, withErrors, withPause, motorAt, busySet, withMotor, withMotors}
 use Rattle.table.specs.declared.head.Head.{Head}
 use Rattle.table.specs.Sound.{soundTable}
 use Rattle.table.proofs.SealLaws.{same-set}
@@ -69,9 +69,9 @@ passed-where f t o = go (needsRemote o && eqb (headOf t .mode) 0) refl (valueInR
     go false r true v true b e = absurd (omega (arith, e))
     go false r true v false b e = record { remote = r; value = v; free = b; motor = numbered (judgeMotor f t o) .done e }
 
-passed : (t : List ℕ) (o : Order) → numberOf (judge t o) ≡ 0 → Passed (full (headOf t)) t o
+passed : (t : List ℕ) (o : Order) → numberOf (judge t o) ≡ 0 → Passed (cardFull (headOf t)) t o
 unfolding judge
-passed t o e = passed-where (full (headOf t)) t o e
+passed t o e = passed-where (cardFull (headOf t)) t o e
 
 -- A course of a start that a line makes is well aimed.
 start-aimed : (m : Motor) (s : Start) → startMade s ≡ true → wellAimed m (courseOf m s) ≡ true
@@ -100,13 +100,13 @@ module _ (t : List ℕ) (x : ℕ) where
   go-fits s h e =
       let p = passed t (Go x s) e in
       let made = and-r (onBench x) (startMade s) h in
-      fits-start (full (headOf t)) s (p .free) (p .motor) (start-aimed (motorAt t x) s made) made
+      fits-start (cardFull (headOf t)) s (p .free) (p .motor) (start-aimed (motorAt t x) s made) made
 
   -- It sets the motor off only where the card is not full.
   go-spare : (s : Start) → numberOf (judge t (Go x s)) ≡ 0 → busy (performed (pausedIn t) (motorAt t x) (starts s)) ≡ true → busy (motorAt t x) ≡ false
-      → full (headOf t) ≡ false
+      → cardFull (headOf t) ≡ false
   unfolding judgeMotor performed
-  go-spare s e y n = starts-spare (full (headOf t)) (pausedIn t) (motorAt t x) (courseOf (motorAt t x) s) (passed t (Go x s) e .motor) n y
+  go-spare s e y n = starts-spare (cardFull (headOf t)) (pausedIn t) (motorAt t x) (courseOf (motorAt t x) s) (passed t (Go x s) e .motor) n y
 
   stop-fits : (flags : ℕ) → orderMade (Stop x flags) ≡ true → Fits (motorAt t x) (stops flags)
   unfolding orderMade
@@ -159,7 +159,7 @@ module _ (t : List ℕ) (x : ℕ) (d : Deed) (quiet : (p : Bool) → pausedBy p 
       go false e = idle t (withMotor t x n) c (motor-kept t x n (sound-length t s) h c (λ q. eqb-false x c e (sym q))) pause-same
 
   -- The table stays sound, where the motor is set off only on a card that is not full: by a start that is judged so, and by no other deed.
-  writes-sound : (busy (performed (pausedIn t) (motorAt t x) d) ≡ true → busy (motorAt t x) ≡ false → full (headOf t) ≡ false)
+  writes-sound : (busy (performed (pausedIn t) (motorAt t x) d) ≡ true → busy (motorAt t x) ≡ false → cardFull (headOf t) ≡ false)
       → soundTable (withMotor t x (performed (pausedIn t) (motorAt t x) d)) ≡ true
   unfolding n
   writes-sound goes = motor-sound t x n s h sound-after (performed-right (pausedIn t) (motorAt t x) d (sound-held-at t x s h)) goes

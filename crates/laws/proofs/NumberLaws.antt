@@ -1,25 +1,41 @@
 -- The numbers handed back, for every table and all inputs. Assumes nothing.
 use mathlib.Core.Path.{_≡_, refl, sym, _∙_}
 use mathlib.Core.List.{List, []}
-use mathlib.Core.Bool.{Bool, true, false, _&&_, _||_, not, false≢true}
-use Prim.Native.Nat.{ℕ, _%_, _≤_}
+use mathlib.Core.Bool.{Bool, true, false, _&&_, _||_, not, cond, false≢true}
+use Prim.Native.Nat.{ℕ, _%_, _≤_, _<_}
 use native.Mathlib.Omega.{arith}
 use lib.ListN.{length}
 use lib.Dec.{eqb, leb}
-use borrow.Author.Tests.{eq-eqb, ne-eqb, eqb-true, le-leb}
+use borrow.Author.Tests.{eq-eqb, ne-eqb, eqb-true, le-leb, lt-leb, leb-true}
+use Rattle.digits.specs.Words.{howMany}
+use Rattle.digits.proofs.CountLaws.{many-fewer}
+use Rattle.record.specs.declared.Motor.{Motor}
+use Rattle.motor.specs.Switches.{unread, blocked, room}
 use Rattle.motor.specs.Sound.{busy}
 use Rattle.drive.specs.declared.Verdict.{Verdict}
-use Rattle.drive.specs.declared.Verdict.the-variants.{Done, NotDriving}
+use Rattle.drive.specs.declared.Verdict.the-variants.{Done, Busy, OutOfRange, LocalMode, Disabled, Unread, SwitchAhead, AtLimit, AtRangeEnd, NotDriving}
+use Rattle.drive.specs.declared.Course.{Course}
+use Rattle.drive.specs.declared.Course.the-variants.{Stay, Beyond, To, Along}
+use Rattle.drive.specs.Drives.{towards, atRangeEnd, hindrance, judgeStart}
 use Rattle.drive.specs.Numbers.{numberOf, isSilent, isRefusal}
 use Rattle.drive.proofs.NumberLaws.{numbered}
 use Rattle.line.specs.declared.Order.{Order}
 use Rattle.line.specs.declared.Order.the-variants.{Go, Stop, StopAll, ChangeSpeed, Set, Ask, AskHead, ForHead}
 use Rattle.line.specs.declared.Parsed.{Parsed}
 use Rattle.line.specs.declared.Parsed.the-variants.{Is, Nothing}
+use Rattle.line.specs.declared.Start.{Start}
 use Rattle.line.specs.Forms.{orderOf}
-use Rattle.table.specs.Layout.{tableSize, headOf, full, motorAt}
+use Rattle.line.specs.Made.{orderMade}
+use Rattle.line.proofs.OrderLaws.{line-made}
+use Rattle.orders.specs.Values.{needsRemote, valueInRange}
+use Rattle.orders.specs.Settings.{courseOf}
+use Rattle.table.specs.Layout.{tableSize, headOf, cardFull, motorAt}
 use Rattle.table.specs.Sound.{soundTable}
-use Rattle.commands.specs.Judging.{judgeMotor, judge}
+use Rattle.table.proofs.SealLaws.{set-many}
+use Rattle.table.proofs.TableLaws.{sound-set}
+use Rattle.table.proofs.HeadLaws.{sound-range, range-parts}
+use Rattle.commands.specs.Judging.{meetsBusy, judgeMotor, judgeWhere, judge}
+use Rattle.commands.proofs.ChannelLaws.{named, named-channel}
 use Rattle.commands.specs.Changing.{flagged}
 use Rattle.obeying.specs.Taking.{orderIn, refused, obeyed}
 use Rattle.obeying.proofs.NumberLaws.{either, judge-passes, refused-number, obeyed-number}
@@ -99,7 +115,8 @@ split t (command line reply) =
 split t (reading c x) = reading-ways (λ a. a .result % 256 ≡ 4 → ⊥) t c x (λ n h. silent-other n 4 h refl) (λ s h e. absurd (omega (arith, e)))
 split t (tick p) = tick-ways (λ a. a .result % 256 ≡ 4 → ⊥) t p (λ n h. silent-other n 4 h refl) (λ s e. absurd (omega (arith, e)))
 
--- 8 to 12 and 14, the numbers of what keeps a motor from leaving; an order that is no start gets none of them, and nor does a line without form.
+-- 8 to 12 and 14, the numbers of what keeps a motor from leaving; an order that is no start gets none of them, and nor does a line without
+-- form.
 abbrev hinders : ℕ → Bool
 hinders n = leb 8 n && not (eqb n 13)
 
@@ -110,7 +127,7 @@ unhindered : (t : List ℕ) (o : Order) → starting o ≡ false → unhindering
 unfolding judgeMotor numberOf
 unhindered t o i = judge-passes unhindering t o refl refl refl (by-motor o i)
   where
-    by-motor : (o : Order) → starting o ≡ false → unhindering (judgeMotor (full (headOf t)) t o) ≡ true
+    by-motor : (o : Order) → starting o ≡ false → unhindering (judgeMotor (cardFull (headOf t)) t o) ≡ true
     by-motor (Go x s) i = absurd (false≢true (sym i))
     by-motor (Stop x e) i = refl
     by-motor (StopAll e) i = refl
@@ -141,6 +158,77 @@ starts t line reply n low other e = sized (sizesRight t (command line reply)) re
     sized : (b : Bool) → sizesRight t (command line reply) ≡ b → isSome starting (orderOf line) ≡ true
     sized true z = sound z (soundTable t) refl
     sized false z = absurd (omega (arith, low, rw (command-size t line reply z) at e))
+
+-- 14 comes on the four-motor card alone: where a channel is not busy, the other card is not full.
+spare-sixteen : (t : List ℕ) (x : ℕ) → soundTable t ≡ true → x ≤ 15 → busy (motorAt t x) ≡ false → headOf t .card ≡ 0 → cardFull (headOf t) ≡ false
+unfolding cardFull
+spare-sixteen t x s h e z =
+    let fewer : howMany (λ c. busy (motorAt t c)) 16 < 16 = many-fewer (λ c. busy (motorAt t c)) 16 x (omega arith) e in
+    rw (z, sound-set t s, set-many t) (lt-leb 16 (howMany (λ c. busy (motorAt t c)) 16) fewer)
+
+-- another number than 14
+abbrev another : Verdict → Bool
+another v = not (eqb (numberOf v) 14)
+
+hindered : (m : Motor) (going : ℕ) → another (hindrance false m going) ≡ true
+unfolding hindrance numberOf
+hindered m going =
+    either another (eqb (m .setup .a) 0) Disabled _ refl
+    (either another (unread (m .wiring)) Unread _ refl
+    (either another (blocked going m) SwitchAhead _ refl
+    (either another (atRangeEnd m going) AtRangeEnd _ refl
+    (either another (eqb (room going m) 0) AtLimit Done refl refl))))
+
+unfull : (m : Motor) (c : Course) → another (judgeStart false m c) ≡ true
+unfolding judgeStart numberOf
+unfull m Stay = refl
+unfull m Beyond = refl
+unfull m (To p) = hindered m (towards m p)
+unfull m (Along going) = hindered m going
+
+go-unfull : (t : List ℕ) (x : ℕ) (r : Start) → soundTable t ≡ true → x ≤ 15 → headOf t .card ≡ 0 → another (judge t (Go x r)) ≡ true
+unfolding judge judgeWhere meetsBusy judgeMotor numberOf
+go-unfull t x r s h z =
+    either another (needsRemote (Go x r) && eqb (headOf t .mode) 0) LocalMode _ refl
+    (either another (not (valueInRange (Go x r))) OutOfRange _ refl (go (busy (motorAt t x)) refl))
+  where
+    go : (b : Bool) → busy (motorAt t x) ≡ b → another (cond b Busy (judgeStart (cardFull (headOf t)) (motorAt t x) (courseOf (motorAt t x) r))) ≡ true
+    go true e = refl
+    go false e = rw (spare-sixteen t x s h e z) (unfull (motorAt t x) (courseOf (motorAt t x) r))
+
+on-sixteen : (t : List ℕ) (o : Order) → soundTable t ≡ true → orderMade o ≡ true → headOf t .card ≡ 0 → another (judge t o) ≡ true
+unfolding judgeMotor numberOf named
+on-sixteen t (Go x r) s made z = go-unfull t x r s (named-channel (Go x r) made) z
+on-sixteen t (Stop x e) s made z = judge-passes another t (Stop x e) refl refl refl refl
+on-sixteen t (StopAll e) s made z = judge-passes another t (StopAll e) refl refl refl refl
+on-sixteen t (ChangeSpeed x v) s made z = judge-passes another t (ChangeSpeed x v) refl refl refl (either another (busy (motorAt t x)) Done NotDriving refl refl)
+on-sixteen t (Set x r) s made z = judge-passes another t (Set x r) refl refl refl refl
+on-sixteen t (Ask x q) s made z = judge-passes another t (Ask x q) refl refl refl refl
+on-sixteen t (AskHead q) s made z = judge-passes another t (AskHead q) refl refl refl refl
+on-sixteen t (ForHead h) s made z = judge-passes another t (ForHead h) refl refl refl refl
+
+fourteen : (t line reply : List ℕ) → commandCall t line reply .result % 256 ≡ 14 → headOf t .card ≡ 1
+unfolding numberOf
+fourteen t line reply e = sized (sizesRight t (command line reply)) refl
+  where
+    known : soundTable t ≡ true → headOf t .card ≤ 1
+    known s = leb-true (headOf t .card) 1 (range-parts (headOf t) (sound-range t s) .card)
+
+    found : soundTable t ≡ true → (p : Parsed) → orderIn t line ≡ p → numberOf (verdict t p) ≡ 14 → headOf t .card ≡ 0 → ⊥
+    found s Nothing q n z = absurd (omega (arith, n))
+    found s (Is o) q n z =
+        let made : orderMade o ≡ true = rw (on-card (headOf t .card) (orderOf line) o q) at (line-made line) in
+        false≢true (rw n at (on-sixteen t o s made z))
+
+    sound : sizesRight t (command line reply) ≡ true → (b : Bool) → soundTable t ≡ b → headOf t .card ≡ 1
+    sound z true s =
+        let not-sixteen : headOf t .card ≡ 0 → ⊥ = found s (orderIn t line) refl (sym (line-number t line reply z s) ∙ e) in
+        omega (arith, known s, not-sixteen)
+    sound z false s = absurd (omega (arith, rw (command-unsound t line reply z s) at e))
+
+    sized : (b : Bool) → sizesRight t (command line reply) ≡ b → headOf t .card ≡ 1
+    sized true z = sound z (soundTable t) refl
+    sized false z = absurd (omega (arith, rw (command-size t line reply z) at e))
 
 -- A line that is refused sets its flag, and that is all.
 refused-flags : (t : List ℕ) (v : Verdict) (reply : List ℕ) (n : ℕ) → numberOf v ≡ n → refused t v reply .table ≡ flagged t n
@@ -188,6 +276,7 @@ numbers = record {
   judged = λ t line reply o e s q. rw q at (line-number t line reply e s);
   done = done;
   starts = starts;
+  fourteen = fourteen;
   split = split;
   flags = flags;
   nothing = nothing;

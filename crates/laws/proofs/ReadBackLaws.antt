@@ -1,5 +1,5 @@
 -- Demand 2, the settings: over any sequence of calls, what was accepted is what the read command answers. Assumes nothing.
-use mathlib.Core.Path.{_≡_, refl}
+use mathlib.Core.Path.{_≡_, refl, _∙_}
 use mathlib.Core.List.{List, [], _∷_}
 use mathlib.Core.Bool.{Bool, true, false, not, cond}
 use Prim.Native.Nat.{ℕ, _*_, _≤_}
@@ -32,9 +32,10 @@ use Rattle.line.proofs.OrderLaws.{line-made}
 use Rattle.orders.specs.Values.{needsRemote, settingInRange, valueInRange}
 use Rattle.replies.specs.Replies.{questionText, allReplyText, pauseText, freeText, headText}
 use Rattle.status.specs.Status.{modeLetter, statusText}
-use Rattle.table.specs.Layout.{tableSize, headOf, withHead, withErrors, motorAt, withMotor, withMotors}
+use Rattle.table.specs.Layout.{tableSize, headOf, withHead, withErrors, motorAt, withMotor, withMotors, freshTable}
 use Rattle.table.specs.declared.head.Head.{Head}
 use Rattle.table.specs.Sound.{soundTable}
+use Rattle.table.specs.Computing.{computing-table}
 use Rattle.table.proofs.TableLaws.{sound-length, sound-motor-at}
 use Rattle.table.proofs.HeadLaws.{same-head, head-back}
 use Rattle.table.proofs.KeptLaws.{motor-beside}
@@ -45,7 +46,7 @@ use Rattle.commands.proofs.ChannelLaws.{named, named-channel}
 use Rattle.commands.specs.Answers.{answer}
 use Rattle.obeying.specs.Taking.{orderIn, refused, obeyed, taken}
 use Rattle.urqolina.specs.Calls.{commandCall}
-use Rattle.laws.specs.Sequences.{urqolina, Call, command, reading, tick, after, run, Beginning, ran, never}
+use Rattle.laws.specs.Sequences.{urqolina, Call, command, reading, tick, after, run, Beginning, fromFresh, ran, never}
 use Rattle.laws.specs.Deeds.{verdict, sets, orderTaken, deedOf, deed}
 use Rattle.laws.specs.Ledger.{countAt}
 use Rattle.laws.specs.ReadBack.{questionFor, textFor, changes, headTopic, writesField, isSome, changesHead, ReadsBack}
@@ -54,8 +55,8 @@ use Rattle.laws.proofs.DeedLaws.{Fits, fits-set, performed, pausedIn}
 use Rattle.laws.proofs.Following.{Follows, order-follows, next}
 use Rattle.laws.proofs.CallWays.{in-form, sound-ways, reading-ways, tick-ways}
 use Rattle.laws.proofs.PartLaws.{motors-beside}
-use Rattle.laws.proofs.NeighbourLaws.{changed-head}
-use Rattle.laws.proofs.LastingLaws.{run-sound, ran-sound}
+use Rattle.laws.proofs.NeighbourLaws.{changed-head, card-stays}
+use Rattle.laws.proofs.LastingLaws.{made-fresh, run-sound, ran-sound}
 use Rattle.laws.proofs.TravelLaws.{tick-count}
 use Rattle.laws.proofs.SettingLaws.{Tells, set-tells, performed-tells}
 
@@ -222,6 +223,19 @@ field-on : (u : List ℕ) (later : List Call) (i n : ℕ) → eqb 2 i ≡ false 
 field-on u later i n h o e w =
     run-keeps (λ t. field i (headOf t) ≡ n) (changesHead i) (λ t k s c p. rw (call-field t s i h k c) p) u later o e w
 
+-- The card stays over every sequence, and is the one that fresh was given.
+run-card : (t : List ℕ) (ks : List Call) → headOf (run urqolina t ks) .card ≡ headOf t .card
+unfolding run
+run-card t [] = refl
+run-card t (k ∷ ks) = run-card (after urqolina t k .table) ks ∙ card-stays t k
+
+fresh-card : (card : ℕ) → card ≤ 1 → headOf (freshTable card) .card ≡ card
+unfolding computing-table
+fresh-card card h = omega arith
+
+pub ran-card : (b : Beginning) (ks : List Call) → headOf (ran urqolina b ks) .card ≡ b .card
+ran-card b ks = run-card (fromFresh urqolina b) ks ∙ (rw (made-fresh b) (fresh-card (b .card) (b .known)))
+
 -- The demand: what was set is answered, whatever came before, and whatever came since that did not change it.
 pub reads-back : (b : Beginning) (ks : List Call) (k : Call) (later : List Call) (line reply : List ℕ) (enough : 32 ≤ length reply)
     → ReadsBack urqolina b ks k later line reply enough
@@ -241,8 +255,9 @@ reads-back b ks k later line reply enough =
       mode = λ n x e h q.
           let m = motorAt v x in
           rw (read (Ask x AskStatus) (questionText (headOf v .mode) x m AskStatus) (in-form v line _ q refl) refl refl refl, status-letter reply (headOf v .mode) x m, kept 0 (Mode n) n refl e refl h);
-      modeFree = λ n e h q.
-          rw (read (AskHead AskFree) (headText (headOf v) AskFree) q refl refl refl, free-letter reply (headOf v), kept 0 (Mode n) n refl e refl h);
+      modeFree = λ n e h four q.
+          let card : headOf v .card ≡ 1 = run-card u later ∙ card-stays t k ∙ ran-card b ks ∙ four in
+          rw (read (AskHead AskFree) (headText (headOf v) AskFree) (in-form v line (AskHead AskFree) q (rw card)) refl refl refl, free-letter reply (headOf v), kept 0 (Mode n) n refl e refl h);
     }
   where
     t : List ℕ

@@ -27,9 +27,8 @@ use Rattle.orders.specs.Values.{needsRemote, valueInRange}
 use Rattle.orders.specs.Settings.{courseOf}
 use Rattle.status.specs.Status.{modeLetter}
 use Rattle.replies.specs.Replies.{freeText, headText}
-use Rattle.table.specs.Layout.{tableSize, headOf, full, motorAt, freshTable}
+use Rattle.table.specs.Layout.{tableSize, headOf, cardFull, motorAt}
 use Rattle.table.specs.Sound.{soundTable}
-use Rattle.table.specs.Computing.{computing-table}
 use Rattle.table.proofs.SealLaws.{set-many}
 use Rattle.table.proofs.TableLaws.{sound-motor-at, sound-set}
 use Rattle.table.proofs.HeadLaws.{sound-few}
@@ -38,27 +37,16 @@ use Rattle.commands.specs.Changing.{changed}
 use Rattle.commands.specs.Answers.{answer}
 use Rattle.commands.proofs.ChannelLaws.{named, named-channel}
 use Rattle.obeying.specs.Taking.{orderIn}
-use Rattle.laws.specs.Sequences.{urqolina, Call, command, after, run, Beginning, fromFresh, ran}
+use Rattle.laws.specs.Sequences.{urqolina, Call, command, after, Beginning, ran}
 use Rattle.laws.specs.Ledger.{setsOff}
 use Rattle.laws.specs.Pulses.{accountNow, most, driving, Shared}
 use Rattle.laws.proofs.DeedLaws.{pausedIn}
 use Rattle.laws.proofs.AccountLaws.{off-leaves}
 use Rattle.laws.proofs.CallWays.{in-form, line-number}
 use Rattle.laws.proofs.Following.{Passed, passed-where}
-use Rattle.laws.proofs.LastingLaws.{made-fresh, ran-sound}
-use Rattle.laws.proofs.NeighbourLaws.{card-stays}
+use Rattle.laws.proofs.LastingLaws.{ran-sound}
 use Rattle.laws.proofs.PulseLaws.{balance, leaves-busy}
-use Rattle.laws.proofs.ReadBackLaws.{right-size, asked}
-
--- The card stays over every sequence.
-run-card : (t : List ℕ) (ks : List Call) → headOf (run urqolina t ks) .card ≡ headOf t .card
-unfolding run
-run-card t [] = refl
-run-card t (k ∷ ks) = run-card (after urqolina t k .table) ks ∙ card-stays t k
-
-fresh-card : (card : ℕ) → card ≤ 1 → headOf (freshTable card) .card ≡ card
-unfolding computing-table
-fresh-card card h = omega arith
+use Rattle.laws.proofs.ReadBackLaws.{right-size, asked, ran-card}
 
 -- A start that every other check lets leave is judged by whether the card is full.
 module _ (t : List ℕ) (x : ℕ) (s : Start) (sound : soundTable t ≡ true) (made : orderMade (Go x s) ≡ true) (otherwise : judgeWhere false t (Go x s) ≡ Done)
@@ -96,7 +84,7 @@ module _ (b : Beginning) (ks : List Call) where
   s = ran-sound b ks
 
   card : headOf t .card ≡ b .card
-  card = run-card (fromFresh urqolina b) ks ∙ (rw (made-fresh b) (fresh-card (b .card) (b .known)))
+  card = ran-card b ks
 
   -- The bits of the word are the busy channels, and those are the ones whose drive lasts.
   word : bitsSet (headOf t .busy) ≡ driving urqolina b ks
@@ -107,8 +95,8 @@ module _ (b : Beginning) (ks : List Call) where
   few : driving urqolina b ks ≤ most urqolina b ks
   few = rw (word, card) at (sound-few t s)
 
-  full-now : full (headOf t) ≡ eqb (driving urqolina b ks) (most urqolina b ks)
-  unfolding full
+  full-now : cardFull (headOf t) ≡ eqb (driving urqolina b ks) (most urqolina b ks)
+  unfolding cardFull
   full-now = rw (word, card) (at-most (driving urqolina b ks) (most urqolina b ks) few)
 
   sizes : (reply : List ℕ) → 32 ≤ length reply → (eqb (length t) tableSize && leb 32 (length reply)) ≡ true
@@ -120,7 +108,7 @@ module _ (b : Beginning) (ks : List Call) where
   gate line reply x st h q j off =
       let made : orderMade (Go x st) ≡ true = rw q at (line-made line) in
       let number = rw (in-form t line (Go x st) q refl) at (line-number t line reply (sizes reply h) s) in
-      rw (number, ← full-now) (by-card t x st s made j off (full (headOf t)))
+      rw (number, ← full-now) (by-card t x st s made j off (cardFull (headOf t)))
 
   free : (line reply : List ℕ) → 32 ≤ length reply → orderOf line ≡ Is (AskHead AskFree) → b .card ≡ 1
       → let text = modeLetter (headOf t .mode) ∷ digitByte (4 - driving urqolina b ks) ∷ [] in

@@ -64,15 +64,19 @@ pub record Numbers (l : Library) : Type 0 where
   -- "Order: 5, 6, ..": they come first, and "change nothing anywhere". "A refused tick (5 or 6) .. gives no pulse".
   pub sizes : (t : List ℕ) (k : Call) → sizesRight t k ≡ false → after l t k ≡ record { result = 5; table = t; buffer = lent k }
   pub unsound : (t : List ℕ) (k : Call) → sizesRight t k ≡ true → soundTable t ≡ false → after l t k ≡ record { result = 6; table = t; buffer = lent k }
-  -- the table's card decides which lines have a form (02 §7): "1, local mode, value, busy, target out of range .., the other causes of 4", which are split (02 §5): what the rules judge
+  -- "1, local mode, value, busy, target out of range .., the other causes of 4", which are split (02 §5): what the rules judge. The table's
+  -- card decides which lines have a form (02 §7)
   pub formless : (t line reply : List ℕ) → sizesRight t (command line reply) ≡ true → soundTable t ≡ true → orderIn t line ≡ Nothing
       → l .command t line reply .result % 256 ≡ 1
   pub judged : (t line reply : List ℕ) (o : Order) → sizesRight t (command line reply) ≡ true → soundTable t ≡ true → orderIn t line ≡ Is o
       → l .command t line reply .result % 256 ≡ numberOf (judge t o)
   -- a reading and a tick have nothing more to refuse
   pub done : (t : List ℕ) (k : Call) → isCommand k ≡ false → sizesRight t k ≡ true → soundTable t ≡ true → after l t k .result ≡ 0
-  -- 02 §5: "8 to 12 for starts only", and 02 §7: "a fifth start is 14"; "4 is no longer given", by any call
+  -- 02 §5: "8 to 12 for starts only", and 02 §7: "a fifth start is 14": every number from 8 on but SPC's 13
   pub starts : (t line reply : List ℕ) (n : ℕ) → 8 ≤ n → (n ≡ 13 → ⊥) → l .command t line reply .result % 256 ≡ n → isSome starting (orderOf line) ≡ true
+  -- 02 §7: 14 comes "On the four-motor card" alone: on the other the channel that is started is one that is not busy
+  pub fourteen : (t line reply : List ℕ) → l .command t line reply .result % 256 ≡ 14 → headOf t .card ≡ 1
+  -- "4 is no longer given", by any call
   pub split : (t : List ℕ) (k : Call) → after l t k .result % 256 ≡ 4 → ⊥
   -- "Numbers 1 to 4 set error flag bits 0 to 3 in turn and change nothing else in the table": 1, 2, 3 and, by 02 §5, those from 7 on
   pub flags : (t line reply : List ℕ) (n : ℕ) → isRefusal n ≡ true → l .command t line reply .result % 256 ≡ n

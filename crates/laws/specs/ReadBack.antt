@@ -28,7 +28,6 @@ use Rattle.digits.specs.Bytes.{put}
 use Rattle.line.specs.declared.HeadQuestion.the-variants.{AskAllReply, AskPause, AskFree}
 use Rattle.line.specs.Forms.{orderOf}
 use Rattle.table.specs.Layout.{headOf, motorAt}
-use Rattle.obeying.specs.Taking.{orderIn}
 
 -- the read command of each setting: `PS?x`, `FL?x`, `BL?x`, `SPD?x`, `SPDH?x`, `SPDM?x`, `SPDL?x`, `SETLS?x`, `SETMT?x`
 unfoldable pub questionFor : Setting → Question
@@ -141,9 +140,9 @@ module _ (l : Library) (b : Beginning) (ks : List Call) (k : Call) (later : List
         → headOf (run l tableSet later) .mode ≡ n
     pub mode : (n x : ℕ) → orderTaken (ran l b ks) k ≡ Is (ForHead (Mode n)) → never l (changesHead 0) tableSet later ≡ true
         → orderOf line ≡ Is (Ask x AskStatus) → getD (after l (run l tableSet later) (command line reply) .buffer) 0 0 ≡ modeLetter n
-    -- and by 02 §7 that of `STQ?`, where the card has it
+    -- and by 02 §7 that of `STQ?` on the four-motor card
     pub modeFree : (n : ℕ) → orderTaken (ran l b ks) k ≡ Is (ForHead (Mode n)) → never l (changesHead 0) tableSet later ≡ true
-        → orderIn (run l tableSet later) line ≡ Is (AskHead AskFree) → getD (after l (run l tableSet later) (command line reply) .buffer) 0 0 ≡ modeLetter n
+        → b .card ≡ 1 → orderOf line ≡ Is (AskHead AskFree) → getD (after l (run l tableSet later) (command line reply) .buffer) 0 0 ≡ modeLetter n
     -- 02 §3: PAUSE ON and OFF, until the next one of them that is accepted
     pub pauseHeld : (n : ℕ) → orderTaken (ran l b ks) k ≡ Is (ForHead (Pause n)) → never l (changesHead 3) tableSet later ≡ true
         → headOf (run l tableSet later) .pause ≡ n

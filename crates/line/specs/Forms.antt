@@ -1,4 +1,4 @@
--- Document 01, "Lines": the forms, a row each, in the document's order, and the order that a line is.
+-- Document 01, "Lines": the forms, a row each, in the document's order, the order that a line is, and which forms a card has (02 §7).
 use Prim.Native.Nat.{ℕ}
 use Prim.Native.String as S
 use mathlib.Core.List.{List, [], _∷_, _++_}
@@ -135,8 +135,8 @@ headRows =
     ∷ []
 
 -- The forms that the requests of document 02 add, in the order of the requests. A row is added at the end, so that no other row's
--- number shifts. 02 §3: "Add `PAUSE ON`, `PAUSE OFF` and `PAUSE?`"; 02 §6: "A read `BSY?`"; 02
--- §7: "`STQ?` (000, both modes)".
+-- number shifts. 02 §3: "Add `PAUSE ON`, `PAUSE OFF` and `PAUSE?`"; 02 §6: "A read `BSY?`";
+-- 02 §7: "`STQ?` (000, both modes)".
 abbrev pub requestRows : List Row
 requestRows =
     row "PAUSE " ON (λ f. ForHead (Pause 1))

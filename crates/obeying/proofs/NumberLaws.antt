@@ -21,7 +21,7 @@ use Rattle.line.specs.declared.Order.the-variants.{Go, Stop, StopAll, ChangeSpe
 use Rattle.line.specs.declared.Parsed.{Parsed}
 use Rattle.line.specs.declared.Parsed.the-variants.{Is, Nothing}
 use Rattle.line.specs.Forms.{hasForm, onCard}
-use Rattle.table.specs.Layout.{headOf, full, motorAt}
+use Rattle.table.specs.Layout.{headOf, cardFull, motorAt}
 use Rattle.orders.specs.Values.{needsRemote, valueInRange}
 use Rattle.orders.specs.Settings.{courseOf}
 use Rattle.commands.specs.Judging.{judgeWhere, meetsBusy, judgeMotor, judge}
@@ -32,11 +32,11 @@ pub judged-value : (t : List ℕ) (o : Order) → numberOf (judge t o) ≡ 0 →
 unfolding judge judgeWhere numberOf
 judged-value t o e = local (needsRemote o && eqb (headOf t .mode) 0) e
   where
-    ranged : (b : Bool) → valueInRange o ≡ b → numberOf (cond (not b) OutOfRange (cond (meetsBusy t o) Busy (judgeMotor (full (headOf t)) t o))) ≡ 0 → valueInRange o ≡ true
+    ranged : (b : Bool) → valueInRange o ≡ b → numberOf (cond (not b) OutOfRange (cond (meetsBusy t o) Busy (judgeMotor (cardFull (headOf t)) t o))) ≡ 0 → valueInRange o ≡ true
     ranged true h e = h
     ranged false h e = absurd (omega (arith, e))
 
-    local : (b : Bool) → numberOf (cond b LocalMode (cond (not (valueInRange o)) OutOfRange (cond (meetsBusy t o) Busy (judgeMotor (full (headOf t)) t o)))) ≡ 0
+    local : (b : Bool) → numberOf (cond b LocalMode (cond (not (valueInRange o)) OutOfRange (cond (meetsBusy t o) Busy (judgeMotor (cardFull (headOf t)) t o)))) ≡ 0
         → valueInRange o ≡ true
     local true e = absurd (omega (arith, e))
     local false e = ranged (valueInRange o) refl e
@@ -80,17 +80,17 @@ motor-judged full t (ForHead h) = refl
 
 -- What an order is judged passes a test that local mode, a bad value and busy pass, and what lies in the motor.
 pub judge-passes : (test : Verdict → Bool) (t : List ℕ) (o : Order) → test LocalMode ≡ true → test OutOfRange ≡ true → test Busy ≡ true
-    → test (judgeMotor (full (headOf t)) t o) ≡ true → test (judge t o) ≡ true
+    → test (judgeMotor (cardFull (headOf t)) t o) ≡ true → test (judge t o) ≡ true
 unfolding judge judgeWhere
 judge-passes test t o local value busy motor =
     either test (needsRemote o && eqb (headOf t .mode) 0) LocalMode _ local
     (either test (not (valueInRange o)) OutOfRange _ value
-    (either test (meetsBusy t o) Busy (judgeMotor (full (headOf t)) t o) busy motor))
+    (either test (meetsBusy t o) Busy (judgeMotor (cardFull (headOf t)) t o) busy motor))
 
 -- Whatever judges an order, it is done or refused.
 pub judge-judged : (t : List ℕ) (o : Order) → judged (judge t o) ≡ true
 unfolding numberOf
-judge-judged t o = judge-passes judged t o refl refl refl (motor-judged (full (headOf t)) t o)
+judge-judged t o = judge-passes judged t o refl refl refl (motor-judged (cardFull (headOf t)) t o)
 
 -- So an order that is not done is refused.
 pub refused-judged : (t : List ℕ) (o : Order) → eqb (numberOf (judge t o)) 0 ≡ false → isRefusal (numberOf (judge t o)) ≡ true

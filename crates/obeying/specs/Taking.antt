@@ -42,7 +42,7 @@ refused t v reply =
 unfoldable pub obeyed : List ℕ → Order → List ℕ → CommandAfter
 obeyed t o reply = replied Done (changed t o) (answer (changed t o) o) reply
 
--- what a line is on a table, whose card decides which lines have a form
+-- what a line is on a table, whose card decides which lines have a form; 02 §7, of `STQ?`: "On the sixteen card it is 1"
 abbrev pub orderIn : List ℕ → List ℕ → Parsed
 orderIn t line = onCard (headOf t .card) (orderOf line)
 

@@ -23,7 +23,7 @@ headNeedsRemote (ClearError e) = false
 headNeedsRemote (Pause k) = true
 
 -- "Reads, the four stops, LOC, REM and the ERR family are taken in both modes; the rest need remote mode." 02 §3, of `PAUSE?`: "the read
--- in both modes"; 02 §6, of `BSY?`: "both modes"
+-- in both modes"; 02 §6, of `BSY?`: "both modes"; 02 §7, of `STQ?`: "both modes"
 unfoldable pub needsRemote : Order → Bool
 needsRemote (Go x s) = true
 needsRemote (Stop x e) = false

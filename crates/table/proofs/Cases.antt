@@ -8,7 +8,7 @@ use Rattle.digits.specs.Bytes.{part, put}
 use Rattle.digits.specs.Places.{origin, cw}
 use Rattle.record.specs.declared.Motor.{Motor}
 use Rattle.record.specs.Record.{recordOf, freshMotor, withWiring, withDrive}
-use Rattle.table.specs.Layout.{headOf, full, withHead, withMode, withReply, withErrors, withPause, recordAt, motorAt, withMotor, withMotors, freshTable}
+use Rattle.table.specs.Layout.{headOf, cardFull, withHead, withMode, withReply, withErrors, withPause, recordAt, motorAt, withMotor, withMotors, freshTable}
 use Rattle.table.specs.Sound.{soundTable}
 use Rattle.table.specs.Computing.{computing-table}
 
@@ -95,6 +95,6 @@ card-shared :
     (map (λ n. soundTable (shared 1 n 1)) (4 ∷ 5 ∷ []) ≡ true ∷ false ∷ [])
     × (map (λ n. soundTable (shared 3 n 1)) (4 ∷ 5 ∷ []) ≡ true ∷ false ∷ [])
     × (map (λ card. soundTable (shared 3 5 card)) (0 ∷ 2 ∷ []) ≡ true ∷ false ∷ [])
-    × (map (λ n. full (headOf (shared 1 n 1))) (3 ∷ 4 ∷ []) ≡ false ∷ true ∷ []) × (full (headOf (crowd 5)) ≡ false)
+    × (map (λ n. cardFull (headOf (shared 1 n 1))) (3 ∷ 4 ∷ []) ≡ false ∷ true ∷ []) × (cardFull (headOf (crowd 5)) ≡ false)
 unfolding computing-table crowd shared scanning
 card-shared = (refl, refl, refl, refl, refl)

@@ -18,7 +18,7 @@ use Rattle.record.specs.Record.{recordOf}
 use Rattle.record.proofs.RoundTrip.{record-length}
 use Rattle.motor.specs.Sound.{busy, soundMotor, soundRecord, heldRight}
 use Rattle.motor.proofs.RecordLaws.{record-sound, sound-written-read, sound-read-written}
-use Rattle.table.specs.Layout.{tableSize, headOf, paused, mostBusy, full, recordStart, recordAt, motorAt, busySet, sealed, withRecord, withMotor, withMotors, freshTable}
+use Rattle.table.specs.Layout.{tableSize, headOf, paused, mostBusy, cardFull, recordStart, recordAt, motorAt, busySet, sealed, withRecord, withMotor, withMotors, freshTable}
 use Rattle.table.specs.Sound.{soundTable}
 use Rattle.table.specs.Computing.{computing-table}
 use Rattle.table.proofs.PieceLaws.{put-back}
@@ -79,7 +79,7 @@ motor-unmarked t c m e h seal s same =
 
 -- A sound motor written into a sound table, which goes off only where the card is not full, leaves no more busy than the card lets.
 module _ (t : List ℕ) (c : ℕ) (m : Motor) (sound : soundTable t ≡ true) (channel : c ≤ 15) (right : soundMotor m ≡ true)
-    (goes : busy m ≡ true → busy (motorAt t c) ≡ false → full (headOf t) ≡ false) where
+    (goes : busy m ≡ true → busy (motorAt t c) ≡ false → cardFull (headOf t) ≡ false) where
   -- how many are busy before, and after
   before : ℕ → Bool
   before d = busy (motorAt t d)
@@ -96,7 +96,7 @@ module _ (t : List ℕ) (c : ℕ) (m : Motor) (sound : soundTable t ≡ true) (c
   few-before = rw (← set-many t, ← sound-set t sound) (sound-few t sound)
 
   pub motor-few : bitsSet (headOf (withMotor t c m) .busy) ≤ mostBusy (headOf t .card)
-  unfolding now before full
+  unfolding now before cardFull
   motor-few = rw (written-set t c m (sound-length t sound) channel, set-many (withMotor t c m)) (go (before c) (now c) refl refl)
     where
       own : now c ≡ busy m
@@ -120,7 +120,7 @@ module _ (t : List ℕ) (c : ℕ) (m : Motor) (sound : soundTable t ≡ true) (c
 
 -- A sound motor written into a sound table, held under pause alone, leaves it sound.
 pub motor-sound : (t : List ℕ) (c : ℕ) (m : Motor) → soundTable t ≡ true → c ≤ 15 → soundMotor m ≡ true
-    → heldRight (paused (headOf t)) m ≡ true → (busy m ≡ true → busy (motorAt t c) ≡ false → full (headOf t) ≡ false)
+    → heldRight (paused (headOf t)) m ≡ true → (busy m ≡ true → busy (motorAt t c) ≡ false → cardFull (headOf t) ≡ false)
     → soundTable (withMotor t c m) ≡ true
 motor-sound t c m s h sm k goes =
     let e = sound-length t s in

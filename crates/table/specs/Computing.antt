@@ -2,9 +2,9 @@
 -- definition that is otherwise shut. It says nothing itself.
 use Rattle.motor.specs.Computing.{computing-motor}
 use mathlib.Core.List.{flatMap}
-use Rattle.table.specs.Layout.{headOf, full, withHead, motorAt, busySet, sealed, withMotor, withMotors, freshTable}
+use Rattle.table.specs.Layout.{headOf, cardFull, withHead, motorAt, busySet, sealed, withMotor, withMotors, freshTable}
 use Rattle.table.specs.Sound.{headInRange, soundHead, soundTable}
 
 unfoldable pub computing-table : Unit {0}
-unfolding computing-motor flatMap headOf full withHead motorAt busySet sealed withMotor withMotors freshTable headInRange soundHead soundTable
+unfolding computing-motor flatMap headOf cardFull withHead motorAt busySet sealed withMotor withMotors freshTable headInRange soundHead soundTable
 computing-table = tt

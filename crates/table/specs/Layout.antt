@@ -38,8 +38,8 @@ abbrev pub mostBusy : ℕ → ℕ
 mostBusy card = cond (eqb card 1) 4 16
 
 -- 02 §7: "the number of set bits in the busy word decides whether a start is taken": as many are busy as may be
-unfoldable pub full : Head → Bool
-full h = leb (mostBusy (h .card)) (bitsSet (h .busy))
+unfoldable pub cardFull : Head → Bool
+cardFull h = leb (mostBusy (h .card)) (bitsSet (h .busy))
 
 -- how many bytes they take, and how many are left; "the rest zero"
 abbrev pub headUsed : ℕ

@@ -1,6 +1,5 @@
 // The head of the table, its first 64 bytes, by value: the mode, all-reply, the error flags, pause, the busy set and the card; the rest is
-// zero.
-// Whoever changes one field reads the head, sets the field, and writes the head back.
+// zero. Whoever changes one field reads the head, sets the field, and writes the head back.
 
 use digits::sets::count;
 use digits::words::byte_at;
@@ -12,7 +11,7 @@ ghost use lib.Dec.{leb};
 ghost use lib.ListN.{length};
 ghost use Rattle.digits.specs.Bytes.{part, put, allZero};
 ghost use Rattle.digits.specs.Words.{bitsSet};
-ghost use Rattle.table.specs.Layout.{tableSize, headUsed, headRest, headOf, setBytes, paused, mostBusy, full, withHead, withMode, withReply, withErrors, withPause};
+ghost use Rattle.table.specs.Layout.{tableSize, headUsed, headRest, headOf, setBytes, paused, mostBusy, cardFull, withHead, withMode, withReply, withErrors, withPause};
 ghost use Rattle.table.specs.Sound.{headInRange, soundHead};
 
 // The mode: 0 local, 1 remote. All-reply: 0 off, 1 on. The error flags: 0 to 15. Pause: 0 off, 1 on. The busy set: bit c for channel c. The
@@ -93,9 +92,10 @@ fn most_busy(card: u8) -> u32
     if card == 1 { 4 } else { 16 }
 }
 
-// Whether as many motors are busy as the card lets, so that no start is taken. Those of the sixteen-motor card need not be counted.
+// Whether as many motors are busy as the card lets, so that no start is taken. To count is dear, and for the sixteen-motor card one number
+// tells it.
 pub fn is_full(h: Head) -> bool
-    ensures { λ r. ⌜ r ≡ full h ⌝ }
+    ensures { λ r. ⌜ r ≡ cardFull h ⌝ }
 {
     if h.card == 0 {
         h.busy == 65535
@@ -137,8 +137,8 @@ pub fn with_pause(h: Head, k: u8) -> Head
     n
 }
 
-// Whether no more motors are busy than the card lets. Of sixteen bits no more than sixteen are set, so those of the sixteen-motor card are
-// not counted.
+// Whether no more motors are busy than the card lets. Every call asks it, and to count is dear: of sixteen bits no more than sixteen are
+// set, so those of the sixteen-motor card are not counted.
 fn is_few(card: u8, set: u16) -> bool
     ensures { λ r. ⌜ r ≡ leb (bitsSet set) (mostBusy card) ⌝ }
 {
