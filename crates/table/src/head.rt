@@ -6,13 +6,14 @@ use digits::words::byte_at;
 use digits::words::short_at;
 use digits::words::wide_at;
 ghost use mathlib.Core.Path.{_≡_};
+ghost use mathlib.Core.Bool.{_&&_};
 ghost use mathlib.Core.List.{[], _∷_};
 ghost use lib.Dec.{leb};
 ghost use lib.ListN.{length};
 ghost use Rattle.digits.specs.Bytes.{part, put, allZero};
 ghost use Rattle.digits.specs.Words.{bitsSet};
 ghost use Rattle.table.specs.Layout.{tableSize, headUsed, headRest, headOf, setBytes, paused, mostBusy, cardFull, withHead, withMode, withReply, withErrors, withPause};
-ghost use Rattle.table.specs.Sound.{headInRange, soundHead};
+ghost use Rattle.table.specs.Sound.{soundHead};
 
 // The mode: 0 local, 1 remote. All-reply: 0 off, 1 on. The error flags: 0 to 15. Pause: 0 off, 1 on. The busy set: bit c for channel c. The
 // card: 0 sixteen motors, 1 four.
@@ -149,12 +150,11 @@ fn is_few(card: u8, set: u16) -> bool
     }
 }
 
-// Whether the fields of a head are in their ranges.
-fn head_in_range(h: Head) -> bool
-    ensures { λ r. ⌜ r ≡ headInRange h ⌝ }
+// Whether the fields of a head are in their ranges, each by itself.
+fn fields_in_range(h: Head) -> bool
+    ensures { λ r. ⌜ r ≡ (leb (h .mode) 1 && leb (h .reply) 1 && leb (h .errors) 15 && leb (h .pause) 1 && leb (h .card) 1) ⌝ }
 {
-    let few = is_few(h.card, h.busy);
-    (h.mode <= 1) & (h.reply <= 1) & (h.errors <= 15) & (h.pause <= 1) & (h.card <= 1) & few
+    (h.mode <= 1) & (h.reply <= 1) & (h.errors <= 15) & (h.pause <= 1) & (h.card <= 1)
 }
 
 // Whether the bytes of the head that no field has, 7 to 63, are zero: words of eight bytes from 8 on, and the one before them.
@@ -173,13 +173,18 @@ fn head_zero(t: &[u8]) -> bool
     byte_at(t, 7) == 0
 }
 
-// Whether a head is sound.
+// Whether a head is sound; what has to be counted comes last.
 pub fn sound_head(t: &[u8]) -> bool
     requires { ⌜ length (now t) ≡ tableSize ⌝ }
     ensures { λ r. ⌜ r ≡ soundHead (now (t .entry)) ⌝ }
 {
-    if head_in_range(read_head(t)) {
-        head_zero(t)
+    let h = read_head(t);
+    if fields_in_range(h) {
+        if head_zero(t) {
+            is_few(h.card, h.busy)
+        } else {
+            false
+        }
     } else {
         false
     }
