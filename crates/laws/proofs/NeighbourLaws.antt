@@ -233,14 +233,14 @@ head-left t (tick p) q =
     tick-ways (λ a. HeadLeft t (a .table)) t p (λ n i. (refl, refl))
     (λ s. both-parts t (withMotors t (λ m. tickMotor m .motor)) (motors-beside t (λ m. tickMotor m .motor) (sound-length t s)))
 
--- An order of the head leaves the busy set, and so does a refusal.
-changed-set : (h : Head) (o : HeadOrder) → headChanged h o .busy ≡ h .busy
+-- An order of the head leaves the busy set and the card, and so does a refusal.
+changed-others : (h : Head) (o : HeadOrder) → (headChanged h o .busy ≡ h .busy) × (headChanged h o .card ≡ h .card)
 unfolding headChanged
-changed-set h (Mode k) = refl
-changed-set h (AllReply k) = refl
-changed-set h ClearErrors = refl
-changed-set h (ClearError e) = refl
-changed-set h (Pause k) = refl
+changed-others h (Mode k) = (refl, refl)
+changed-others h (AllReply k) = (refl, refl)
+changed-others h ClearErrors = (refl, refl)
+changed-others h (ClearError e) = (refl, refl)
+changed-others h (Pause k) = (refl, refl)
 
 ordered-set : (t : List ℕ) (o : Order) → soundTable t ≡ true → ofHead o ≡ true → headOf (changed t o) .busy ≡ headOf t .busy
 unfolding changed ofHead
@@ -252,7 +252,7 @@ ordered-set t (Set x a) s q = absurd (false≢true q)
 ordered-set t (Ask x a) s q = refl
 ordered-set t (AskHead a) s q = refl
 ordered-set t (ForHead o) s q =
-    rw (head-back (motorsFreed t o) (headChanged (headOf t) o) (freed-length t o (sound-length t s))) (changed-set (headOf t) o)
+    rw (head-back (motorsFreed t o) (headChanged (headOf t) o) (freed-length t o (sound-length t s))) (changed-others (headOf t) o .0)
 
 head-set : (t line reply : List ℕ) (o : Order) → orderOf line ≡ Is o → ofHead o ≡ true → headOf (commandCall t line reply .table) .busy ≡ headOf t .busy
 unfolding refused obeyed flagged
@@ -262,14 +262,6 @@ head-set t line reply o e q =
     (λ s v h. rw (head-back t _ (sound-length t s))) (λ s p f. rw f at (same s))
 
 -- No call writes the card: an order of the head leaves it, as a refusal does, and all else leaves the head beside the busy set.
-changed-card : (h : Head) (o : HeadOrder) → headChanged h o .card ≡ h .card
-unfolding headChanged
-changed-card h (Mode k) = refl
-changed-card h (AllReply k) = refl
-changed-card h ClearErrors = refl
-changed-card h (ClearError e) = refl
-changed-card h (Pause k) = refl
-
 same-card : (t u : List ℕ) → ((i n : ℕ) → Beside i n → part u i n ≡ part t i n) → headOf u .card ≡ headOf t .card
 same-card t u same = rw (same-head t u same)
 
@@ -283,7 +275,7 @@ ordered-card t (Set x a) s made = same-card t _ (λ i n. changed-head t (Set x a
 ordered-card t (Ask x a) s made = same-card t _ (λ i n. changed-head t (Ask x a) i n s made refl)
 ordered-card t (AskHead a) s made = same-card t _ (λ i n. changed-head t (AskHead a) i n s made refl)
 ordered-card t (ForHead o) s made =
-    unfold changed in rw (head-back (motorsFreed t o) (headChanged (headOf t) o) (freed-length t o (sound-length t s))) (changed-card (headOf t) o)
+    unfold changed in rw (head-back (motorsFreed t o) (headChanged (headOf t) o) (freed-length t o (sound-length t s))) (changed-others (headOf t) o .1)
 
 pub card-stays : (t : List ℕ) (k : Call) → headOf (after urqolina t k .table) .card ≡ headOf t .card
 unfolding after refused obeyed flagged
