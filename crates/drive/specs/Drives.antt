@@ -55,8 +55,8 @@ hindrance full m going =
     (cond full Full
     Done)))))
 
--- of a stopped motor: "target out of range (3, for REL and JOG ..), the other causes of 4", which 02 §5 numbers 8 to 12, and 02 §7's 14; ABS to the
--- present position and REL 0 "meet no later check"
+-- of a stopped motor: "target out of range (3, for REL and JOG ..), the other causes of 4", which 02 §5 numbers 8 to 12, and 14 of 02 §7;
+-- ABS to the present position and REL 0 "meet no later check"
 unfoldable pub judgeStart : Bool → Motor → Course → Verdict
 judgeStart full m Stay = Done
 judgeStart full m Beyond = OutOfRange
