@@ -1,0 +1,3 @@
+pub mod DoubleLaws
+pub mod SumLaws
+pub mod Cases

@@ -1,0 +1,4 @@
+pub mod FieldLaws
+pub mod JudgeLaws
+pub mod StepLaws
+pub mod Cases

@@ -1,0 +1,4 @@
+pub mod Fields
+pub mod Judging
+pub mod Steps
+pub mod Computing
