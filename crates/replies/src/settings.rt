@@ -1,7 +1,7 @@
 // The settings of a motor: the name of its selected speed, and its SETLS and SETMT digits one by one.
 
-use crate::texts::write_text;
 use record::Setup;
+use text::quoted::write_text;
 ghost use mathlib.Core.Path.{_≡_};
 ghost use mathlib.Core.Bool.{true};
 ghost use Prim.Native.Nat.{_≤_};

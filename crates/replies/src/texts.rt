@@ -1,27 +1,15 @@
-// Quoted texts, copied to the front of the buffer.
+// The texts of verdicts and errors, at the front of the buffer.
 
 use digits::is_set;
 use drive::Verdict;
 use drive::numbers::number_of;
+use text::quoted::write_text;
 ghost use mathlib.Core.Bool.{cond};
 ghost use Prim.Native.Nat.{_≤_};
 ghost use lib.ListN.{length};
 ghost use Rattle.text.specs.Text.{Wrote};
 ghost use Rattle.drive.specs.Numbers.{numberOf};
 ghost use Rattle.replies.specs.Replies.{textOf, errorText};
-
-// A quoted text: what is answered is how long it is.
-pub fn write_text(out: &mut [u8], text: &[u8]) -> usize
-    requires { ⌜ length (now text) ≤ length (now out) ⌝ }
-    ensures { λ r. ⌜ Wrote (now (out .entry)) (now (out .exit)) (now (text .entry)) r ⌝ }
-{
-    let mut i: usize = 0;
-    while i < text.len() {
-        out[i] = text[i];
-        i += 1;
-    }
-    i
-}
 
 // The text of a verdict, if it has one: by its number, so that a cause of a refusal needs no arm of its own.
 pub fn write_verdict(out: &mut [u8], v: Verdict) -> usize

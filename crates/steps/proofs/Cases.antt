@@ -5,8 +5,8 @@ use mathlib.Core.Bool.{true, false}
 use mathlib.Core.List.{List, [], _∷_, _++_}
 use lib.Ieee.{binary64, ofBits}
 use Rattle.digits.specs.Words.{wordBytes}
-use Rattle.steps.specs.declared.Step.the-variants.{End, Drive, Wait, Refused}
-use Rattle.steps.specs.Steps.{faultAt, stepAt, beyondAt}
+use Rattle.steps.specs.declared.Step.the-variants.{Drive}
+use Rattle.steps.specs.Steps.{faultAt, refusing, stepAt}
 use Rattle.steps.specs.Computing.{computing-steps}
 
 -- a channel's field, and the field of a double by its bits
@@ -26,11 +26,11 @@ abbrev toward : ℕ → List ℕ
 toward bits = channel 0 ++ double 2 bits ++ double 4 0x4089_0000_0000_0000
 
 targets :
-    (stepAt (toward 0x4004_0000_0000_0000) 0 ≡ Refused (faultAt 24 4))
-    × (stepAt (toward 0x41df_ffff_ffe0_0000) 0 ≡ Refused (faultAt 24 4))
-    × (stepAt (toward 0xfff0_0000_0000_0000) 0 ≡ Refused (faultAt 24 4))
-    × (stepAt (toward 0x7ff8_0000_0000_0000) 0 ≡ Refused (faultAt 24 4))
-    × (stepAt (toward 0x41e0_0000_0000_0000) 0 ≡ Refused (faultAt 25 4))
-    × (stepAt (toward 0x7e37_e43c_8800_759c) 0 ≡ Refused (faultAt 25 4))
+    (stepAt (toward 0x4004_0000_0000_0000) 0 ≡ refusing (faultAt 24 4))
+    × (stepAt (toward 0x41df_ffff_ffe0_0000) 0 ≡ refusing (faultAt 24 4))
+    × (stepAt (toward 0xfff0_0000_0000_0000) 0 ≡ refusing (faultAt 24 4))
+    × (stepAt (toward 0x7ff8_0000_0000_0000) 0 ≡ refusing (faultAt 24 4))
+    × (stepAt (toward 0x41e0_0000_0000_0000) 0 ≡ refusing (faultAt 25 4))
+    × (stepAt (toward 0x7e37_e43c_8800_759c) 0 ≡ refusing (faultAt 25 4))
 unfolding computing-steps
 targets = (refl, refl, refl, refl, refl, refl)

@@ -1,4 +1,5 @@
 pub mod FieldLaws
 pub mod JudgeLaws
 pub mod StepLaws
+pub mod MadeLaws
 pub mod Cases

@@ -16,8 +16,10 @@ use Rattle.steps.specs.declared.Rate.{Rate}
 use Rattle.steps.specs.declared.Rate.the-variants.{Speed, NoSpeed}
 use Rattle.steps.specs.declared.Opening.{Opening}
 use Rattle.steps.specs.declared.Opening.the-variants.{Channel, Good, Bad}
+use Rattle.steps.specs.declared.Ending.{Ending}
+use Rattle.steps.specs.declared.Ending.the-variants.{Complete, Refused}
 use Rattle.steps.specs.declared.Step.{Step}
-use Rattle.steps.specs.declared.Step.the-variants.{End, Drive, Wait, Refused}
+use Rattle.steps.specs.declared.Step.the-variants.{Last, Drive, Wait}
 use Rattle.steps.specs.Fields.{tagAt, valueAt, ended, frameFault, doubleAt}
 use Rattle.steps.specs.Judging.{judgedPoint, judgedSpeed}
 
@@ -60,6 +62,10 @@ rateAt s at = cond (eqb (frameFault 4 4 s at) 0) (Speed (doubleAt s at)) (NoSpee
 
 -- ---- a move
 
+-- a list that is refused ends there
+abbrev pub refusing : Fault → Step
+refusing f = Last (Refused f)
+
 -- a set-point is a distance, for which REL is printed
 abbrev pub isDistance : SetPoint → Bool
 isDistance (Target x) = false
@@ -84,22 +90,22 @@ rateFault (NoSpeed f) = f
 -- a speed that is judged; its field stands at a place
 abbrev pub sped : ℕ → Bool → ℕ → ℕ → Judged → Step
 sped c relative p at (Number v) = Drive (record { channel = c; relative = relative; place = p; speed = v })
-sped c relative p at (Unfit k) = Refused (faultAt k at)
+sped c relative p at (Unfit k) = refusing (faultAt k at)
 
 -- the field of a speed, once the target is good
 abbrev pub ratedBy : ℕ → Bool → ℕ → ℕ → Rate → Step
 ratedBy c relative p at (Speed x) = sped c relative p at (judgedSpeed x)
-ratedBy c relative p at (NoSpeed f) = Refused f
+ratedBy c relative p at (NoSpeed f) = refusing f
 
 -- "the first fault in the list counts": the target is judged before anything of its speed's field
 abbrev pub aimedBy : ℕ → Bool → ℕ → Rate → Judged → Step
 aimedBy c relative at rate (Number p) = ratedBy c relative p (at + 11) rate
-aimedBy c relative at rate (Unfit k) = Refused (faultAt k at)
+aimedBy c relative at rate (Unfit k) = refusing (faultAt k at)
 
 -- the target's field
 abbrev pub pointedBy : ℕ → ℕ → Rate → Aim → Step
 pointedBy c at rate (Point p) = aimedBy c (isDistance p) at rate (judgedPoint p)
-pointedBy c at rate (NoPoint f) = Refused f
+pointedBy c at rate (NoPoint f) = refusing f
 
 -- "then 2 or 3, then 4": what follows the channel's field, from a place on
 unfoldable pub moveAt : List ℕ → ℕ → ℕ → Step
@@ -110,17 +116,17 @@ moveAt s at c = pointedBy c at (rateAt s (at + 11)) (aimAt s at)
 abbrev pub openedBy : List ℕ → ℕ → Opening → Step
 openedBy s at (Channel c) = moveAt s (at + 4) c
 openedBy s at (Good x n) = Wait x n
-openedBy s at (Bad f) = Refused f
+openedBy s at (Bad f) = refusing f
 
 -- the step at a place, where the list may end
 unfoldable pub stepAt : List ℕ → ℕ → Step
-stepAt s at = cond (ended s at) End (openedBy s at (openingAt s at))
+stepAt s at = cond (ended s at) (Last Complete) (openedBy s at (openingAt s at))
 
 -- "26 a step after the 10,000th", "in one field the lower number": what stands at a place where no more step may
-abbrev pub excess : ℕ → Opening → Step
+abbrev pub excess : ℕ → Opening → Ending
 excess at (Channel c) = Refused (faultAt 26 at)
 excess at (Good x n) = Refused (faultAt 26 at)
 excess at (Bad f) = Refused f
 
-unfoldable pub beyondAt : List ℕ → ℕ → Step
-beyondAt s at = cond (ended s at) End (excess at (openingAt s at))
+unfoldable pub beyondAt : List ℕ → ℕ → Ending
+beyondAt s at = cond (ended s at) Complete (excess at (openingAt s at))

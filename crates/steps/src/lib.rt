@@ -57,10 +57,15 @@ pub struct Move {
     pub speed: u32,
 }
 
-// The step at a place of the list: its end, a move, a dwell with its double and its number, or what refuses the list there.
+// How a list ends: whole, or with what refuses it.
+pub enum Ending {
+    Complete,
+    Refused(Fault),
+}
+
+// The step at a place of the list: none, since the list ends there; a move; or a dwell with its double and its number.
 pub enum Step {
-    End,
+    Last(Ending),
     Drive(Move),
     Wait(f64, u32),
-    Refused(Fault),
 }

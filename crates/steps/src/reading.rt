@@ -1,6 +1,7 @@
 // The step that stands at a place of a list.
 
 use crate::Aim;
+use crate::Ending;
 use crate::Fault;
 use crate::Judged;
 use crate::Move;
@@ -20,8 +21,15 @@ ghost use Prim.Native.Nat.{_+_, _<_};
 ghost use Rattle.steps.specs.declared.SetPoint.the-variants.{Dwell};
 ghost use Rattle.steps.specs.declared.Rate.the-variants.{Speed, NoSpeed};
 ghost use Rattle.steps.specs.Judging.{judgedPoint, judgedSpeed};
-ghost use Rattle.steps.specs.Steps.{channelOf, dwellOf, openingAt, aimOf, aimAt, rateAt, aimFault, rateFault};
+ghost use Rattle.steps.specs.Steps.{refusing, channelOf, dwellOf, openingAt, aimOf, aimAt, rateAt, aimFault, rateFault};
 ghost use Rattle.steps.specs.Steps.{isDistance, doubleIn, sped, aimedBy, moveAt, stepAt, beyondAt};
+
+// A list that ends with a fault.
+fn refused(f: Fault) -> Step
+    ensures { λ r. ⌜ r ≡ refusing f ⌝ }
+{
+    Step::Last(Ending::Refused(f))
+}
 
 // A channel's byte.
 fn channel_of(b: u8, at: usize) -> Opening
@@ -162,8 +170,8 @@ fn judge_alone(p: SetPoint, at: usize, fault: Fault) -> Step
     ensures { λ r. ⌜ r ≡ aimedBy 0 false at (NoSpeed fault) (judgedPoint p) ⌝ }
 {
     match judge_point(p) {
-        Judged::Number(_) => Step::Refused(fault),
-        Judged::Unfit(k) => Step::Refused(Fault {
+        Judged::Number(_) => refused(fault),
+        Judged::Unfit(k) => refused(Fault {
             number: k,
             offset: at,
         }),
@@ -181,7 +189,7 @@ fn judge_rate(channel: u8, relative: bool, place: u32, x: f64, at: usize) -> Ste
             place: place,
             speed: v,
         }),
-        Judged::Unfit(k) => Step::Refused(Fault {
+        Judged::Unfit(k) => refused(Fault {
             number: k,
             offset: at,
         }),
@@ -195,7 +203,7 @@ fn judge_move(channel: u8, relative: bool, pair: Pair, at: usize) -> Step
 {
     match judge_point(aim_of(relative, pair.target)) {
         Judged::Number(p) => judge_rate(channel, relative, p, pair.speed, at + 11),
-        Judged::Unfit(k) => Step::Refused(Fault {
+        Judged::Unfit(k) => refused(Fault {
             number: k,
             offset: at,
         }),
@@ -208,7 +216,7 @@ fn move_at(list: &[u8], at: usize, channel: u8) -> Step
 {
     let aim = aim_at(list, at);
     let Aim::Point(point) = aim else {
-        return Step::Refused(aim_fault(aim));
+        return refused(aim_fault(aim));
     };
     let rate = rate_at(list, at + 11);
     let Rate::Speed(speed) = rate else {
@@ -226,29 +234,29 @@ pub fn step_at(list: &[u8], at: usize) -> Step
     ensures { λ r. ⌜ r ≡ stepAt (now (list .entry)) at ⌝ }
 {
     if list.len() <= at {
-        return Step::End;
+        return Step::Last(Ending::Complete);
     }
     match opening_at(list, at) {
         Opening::Channel(c) => move_at(list, at + 4, c),
         Opening::Good(x, n) => Step::Wait(x, n),
-        Opening::Bad(f) => Step::Refused(f),
+        Opening::Bad(f) => refused(f),
     }
 }
 
 // What stands at a place after the last step that a list may have.
-pub fn beyond_at(list: &[u8], at: usize) -> Step
+pub fn beyond_at(list: &[u8], at: usize) -> Ending
     ensures { λ r. ⌜ r ≡ beyondAt (now (list .entry)) at ⌝ }
 {
     if list.len() <= at {
-        return Step::End;
+        return Ending::Complete;
     }
     let too_many = Fault {
         number: 26,
         offset: at,
     };
     match opening_at(list, at) {
-        Opening::Channel(_) => Step::Refused(too_many),
-        Opening::Good(_, _) => Step::Refused(too_many),
-        Opening::Bad(f) => Step::Refused(f),
+        Opening::Channel(_) => Ending::Refused(too_many),
+        Opening::Good(_, _) => Ending::Refused(too_many),
+        Opening::Bad(f) => Ending::Refused(f),
     }
 }

@@ -154,13 +154,13 @@ pub fn write_decimal(out: &mut [u8], least: usize, n: u32) -> usize
     k
 }
 
-fn sign_of(place: u32) -> u8
+pub fn sign_of(place: u32) -> u8
     ensures { λ r. ⌜ r ≡ signByte place ⌝ }
 {
     if ORIGIN <= place { b'+' } else { b'-' }
 }
 
-fn distance_of(place: u32) -> u32
+pub fn distance_of(place: u32) -> u32
     ensures { λ r. ⌜ r ≡ distance place ⌝ }
 {
     if ORIGIN <= place {

@@ -22,11 +22,18 @@ judge-rate-requires c κs = search needs
 enum-known-k : tie.Need-enum-known-k
 enum-known-k c = search needs
 
+refused-requires : tie.Need-refused-requires
+refused-requires c κs = search needs
+
 returns : tie.Need-returns
-returns c = cc
+returns c =
+    let j = c .before .before .before .before in
+    rw (← j .before .aim-of .ensures, ← j .judge-point .ensures, c .before .before .p .given .1, c .judge-rate .ensures)
 
 returns-2 : tie.Need-returns-2
-returns-2 c = cc
+returns-2 c =
+    let j = c .before .before .before .before in
+    rw (← j .before .aim-of .ensures, ← j .judge-point .ensures, c .before .before .k .given .1, c .refused .ensures)
 
 pub judge-move-spec : {M : Type 1} → statement M
 judge-move-spec =
@@ -38,5 +45,6 @@ judge-move-spec =
     add-judge-rate
     judge-rate-requires
     enum-known-k
+    refused-requires
     returns
     returns-2)

@@ -21,11 +21,15 @@ enum-told c = search needs
 aim-fault-requires : tie.Need-aim-fault-requires
 aim-fault-requires c κs = search needs
 
+refused-requires : tie.Need-refused-requires
+refused-requires c κs = search needs
+
 returns : tie.Need-returns
 unfolding moveAt
 returns c =
-    let a = c .before .before .before in
-    rw (← a .aim-at .ensures, c .aim-fault .ensures, c .before .enum-told .given .1)
+    let f = c .before in
+    let a = f .before .before .before in
+    rw (← a .aim-at .ensures, c .refused .ensures, f .aim-fault .ensures, f .before .enum-told .given .1)
 
 add-rate-at : tie.Need-add-rate-at
 add-rate-at c =
@@ -90,6 +94,7 @@ move-at-spec =
     enum-known-aim
     enum-told
     aim-fault-requires
+    refused-requires
     returns
     add-rate-at
     rate-at-requires

@@ -30,6 +30,9 @@ enum-known-x c = search needs
 enum-known-f : tie.Need-enum-known-f
 enum-known-f c = search needs
 
+refused-requires : tie.Need-refused-requires
+refused-requires c κs = search needs
+
 returns-2 : tie.Need-returns-2
 unfolding stepAt
 returns-2 c =
@@ -45,8 +48,8 @@ returns-3 c =
 returns-4 : tie.Need-returns-4
 unfolding stepAt
 returns-4 c =
-    let o = c .before .before .before in
-    rw (lt-leb _ _ (o .before .if1 .left), ← o .opening-at .ensures, c .before .f .given .1)
+    let o = c .before .before .before .before in
+    rw (lt-leb _ _ (o .before .if1 .left), ← o .opening-at .ensures, c .before .before .f .given .1, c .refused .ensures)
 
 pub step-at-spec : {M : Type 1} → statement M
 step-at-spec =
@@ -59,6 +62,7 @@ step-at-spec =
     move-at-requires
     enum-known-x
     enum-known-f
+    refused-requires
     returns-2
     returns-3
     returns-4)

@@ -1,4 +1,4 @@
--- `replies::texts::write_text` meets its contract. The invariant: the first i bytes of the text are copied. Assumes nothing.
+-- `text::quoted::write_text` meets its contract. The invariant: the first i bytes of the text are copied. Assumes nothing.
 use mathlib.Core.Path.{_≡_, refl}
 use Prim.Native.Nat.{_-_, _≤_}
 use native.Mathlib.Nat.{zero-add}
@@ -8,8 +8,8 @@ use lib.ListN.{length, length-set}
 use lib.Seq.{paste, paste-zero, paste-suc, take-length}
 use denote.Ref.{now}
 use Rattle.digits.specs.Bytes.{put}
-use Rattle.replies.proofs.texts.write_text.Statement.{statement}
-use Rattle.replies.proofs.texts.write_text.Tie as tie
+use Rattle.text.proofs.quoted.write_text.Statement.{statement}
+use Rattle.text.proofs.quoted.write_text.Tie as tie
 
 abbrev Inv-loop : tie.InvT-loop
 Inv-loop out₀ text i₀ out i = (i ≤ length text) × (length out ≡ length out₀) × (out ≡ paste out₀ 0 text i)
