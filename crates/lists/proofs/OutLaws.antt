@@ -26,6 +26,11 @@ wrote-more before mid part s t n k a l h b =
       buffer = rw (b .buffer, put-rest mid t n (omega arith), a .buffer) (text-more before s t n (a .count) (omega arith));
     }
 
+-- what was written is no longer than the buffer
+pub wrote-fits : {before after text : List ℕ} {r : ℕ} → Wrote before after text r → r ≤ length after
+unfolding put
+wrote-fits {before} {after} {text} w = rw (w .count, w .buffer, length-append, length-append) (omega arith)
+
 -- ---- lengths
 
 pub then-within : (n b : ℕ) → length (plainText n ++ (b ∷ [])) ≤ 11
