@@ -507,8 +507,11 @@ def all_lists(fixed, count, draw):
     """What each list is, its bytes, how its output must end, where that is known, and its portions, 0 for a file."""
     for k in range(len(fixed) + count):
         what, data, *tail = fixed[k] if k < len(fixed) else drawn(draw)
-        portion = max(draw.pick((1, 2, 3, 5, 7, 8, 11, 13, 64, 4095, 4097)), len(data) // PORTIONS + 1)
-        yield what, data, tail[0] if tail else None, portion if k % PIPED == 0 else 0
+        portion = 0
+        if k % PIPED == 0:
+            portion = max(draw.pick((1, 2, 3, 5, 7, 8, 11, 13, 64, 4095, 4097)), len(data) // PORTIONS + 1)
+            what += '; in portions of %d' % portion
+        yield what, data, tail[0] if tail else None, portion
 
 
 def main(model, count, seed, *command):
