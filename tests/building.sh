@@ -2,17 +2,42 @@
 # How a tree is built: once, while others wait; what is said meanwhile; and that a build which is broken off blocks nobody.
 . "$(dirname "$0")/tree"
 
-# As many crates as the stand-in tells of, and one that bench does not need.
-printf '# two below it\ndigits:\ntext: digits\nlaws: text\nbench: io text digits\n' >"$tree/crates.txt"
+# As many crates as the stand-in tells of, and one that neither program needs.
+printf '# two below it\ndigits:\ntext: digits\nlaws: text\nbench: io text digits\nscanlist: io text digits\n' >"$tree/crates.txt"
 
 GO=$room/go
 must_run_ten 'an unbuilt tree'
 must_have_built 1 'ten runs of an unbuilt tree'
 GO=''
 
+# The two programs at once: the second waits while the first is built, and is then built too.
+rm -r "$tree/target"
+rm "$room/go"
+: >"$calls"
+GO=$room/go "$tree/bench" "$input" >"$room/out" 2>"$room/err" &
+must_come "$calls" 'rt was not called'
+try scanlist
+: >"$room/said"
+{ "$tree/scanlist" "$input" >"$room/out.0" 2>"$room/said"; echo $? >"$room/status.0"; } &
+must_come "$room/said" 'the second program does not say that it waits'
+: >"$room/go"
+wait
+[ "$(cat "$room/status.0")" = 0 ] && cmp -s "$room/out.0" "$expected" || fail "the second program has said: $(cat "$room/said")"
+cat >"$room/expected" <<'END'
+scanlist: another run is building in this tree; waiting for it
+scanlist: proving what it is built from, 3 crates; from nothing this takes some minutes
+scanlist: crate 1 of 3: digits proved (0 s)
+scanlist: crate 2 of 3: text proved (0 s)
+scanlist: crate 3 of 3: scanlist proved (0 s)
+END
+cmp -s "$room/said" "$room/expected" || fail "the second program has said: $(cat "$room/said")"
+try bench
+cmp -s "$room/out" "$expected" || fail 'the first program printed something else'
+printf 'check bench\ncheck scanlist\n' | cmp -s - "$calls" || fail "for the two programs rt was called with: $(cat "$calls")"
+
 # The first line is there before rt is called, and so before anything takes long.
 rm -r "$tree/target"
-"$tree/bench" "$script" >"$room/out" 2>"$calls.err" || fail "an unbuilt tree: it ended with status $?"
+"$tree/bench" "$input" >"$room/out" 2>"$calls.err" || fail "an unbuilt tree: it ended with status $?"
 cmp -s "$room/out" "$expected" || fail 'an unbuilt tree: it printed something else'
 grep -q '^bench: proving .* 3 crates.*some minutes' "$calls.said" || fail "before rt was called it had said: $(cat "$calls.said")"
 cat >"$room/said" <<'END'
@@ -34,7 +59,7 @@ grep -qx "bench: the kit here is another kit; this repository was proved with $(
 # On a terminal, one line is written over and over.
 if command -v script >/dev/null; then
     rm -r "$tree/target"
-    TERM=vt100 script -qec "$tree/bench $script" /dev/null </dev/null >"$room/seen"
+    TERM=vt100 script -qec "$tree/bench $input" /dev/null </dev/null >"$room/seen"
     tr '\r' '\n' <"$room/seen" | grep -q '^.*bench: crate 3 of 3' || fail "on a terminal it does not say how far it is"
     [ "$(grep -c 'bench: crate' "$room/seen")" = 1 ] || fail "on a terminal it takes more than one line"
 fi
@@ -44,7 +69,7 @@ fi
 for signal in INT TERM KILL; do
     rm -r "$tree/target"
     : >"$calls"
-    WAIT=50 env --default-signal=INT "$tree/bench" "$script" >"$room/out" 2>"$room/err" &
+    WAIT=50 env --default-signal=INT "$tree/bench" "$input" >"$room/out" 2>"$room/err" &
     must_come "$calls" 'rt was not called'
     kill -s $signal $!
     began=$(date +%s)
@@ -56,7 +81,7 @@ done
 # Killed, and its parent takes no notice, so that it is dead and not gone.
 rm -r "$tree/target"
 : >"$calls"
-WAIT=50 sh -c '"$1" "$2" >"$3/out" 2>"$3/err" & echo $! >"$3/pid"; exec sleep 100' sh "$tree/bench" "$script" "$room" &
+WAIT=50 sh -c '"$1" "$2" >"$3/out" 2>"$3/err" & echo $! >"$3/pid"; exec sleep 100' sh "$tree/bench" "$input" "$room" &
 holder=$!
 must_come "$calls" 'rt was not called'
 kill -s KILL "$(cat "$room/pid")"
@@ -89,7 +114,7 @@ must_have_built 2 'after a build that failed'
 touch "$tree/crates.txt"
 : >"$calls"
 : >"$room/status"
-{ WAIT=50 "$tree/bench" "$script" >"$room/out" 2>"$room/err"; echo $? >"$room/status"; } &
+{ WAIT=50 "$tree/bench" "$input" >"$room/out" 2>"$room/err"; echo $? >"$room/status"; } &
 must_come "$calls" 'rt was not called'
 kill -s KILL "$(cat "$calls.pid")"
 must_come "$room/status" 'rt was killed, and the build goes on'

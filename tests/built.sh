@@ -36,9 +36,28 @@ must_build 'no program'
 rm -r "$tree/target"
 must_build 'no target/'
 
+# The other program is built by itself, and each of them stays built while the other one is.
+try scanlist
+must_build 'the other program'
+listing >"$room/before"
+must_run_ten 'the other program, built'
+listing | cmp -s - "$room/before" || fail 'a run of the other program, built, wrote to target/'
+rm "$tree/target/stamp/scanlist"
+must_build 'no stamp of the other program'
+rm "$tree/target/bin/scanlist"
+must_build 'no other program'
+try bench
+must_run 'one program, after the other was built'
+must_have_built "$builds" 'one program, after the other was built'
+touch "$tree/crates/line/src/lib.rt"
+must_build 'a newer source'
+try scanlist
+must_build 'a newer source, and the other program'
+try bench
+
 # What changes while it is built is newer than the program.
 touch "$tree/crates.txt"
-WAIT=0.5 "$tree/bench" "$script" >"$room/out" 2>"$room/err" &
+WAIT=0.5 "$tree/bench" "$input" >"$room/out" 2>"$room/err" &
 while [ "$(built_times)" = "$builds" ]; do sleep 0.1; done
 touch "$tree/crates/line/src/lib.rt"
 wait
@@ -52,14 +71,22 @@ printf '#!/bin/sh\ncase $1 in doc) echo %s/kit/docs/START-HERE.md ;; *) exec %s 
 chmod +x "$room/other-rt"
 REAL=$room/other-rt
 must_build 'a newer kit'
+try scanlist
+must_build 'a newer kit, and the other program'
 
 # A user who may only read. Root may always write, so nobody runs it then.
 chmod -R a+rX,a-w "$tree"
 as=''
 [ "$(id -u)" != 0 ] || as='setpriv --reuid=65534 --regid=65534 --clear-groups'
-$as "$tree/bench" "$script" >"$room/out" || fail "a user who may only read: it ended with status $?"
-cmp -s "$room/out" "$expected" || fail 'a user who may only read: it printed something else'
+for each in bench scanlist; do
+    try $each
+    $as "$tree/$each" "$input" >"$room/out" || fail "a user who may only read: $each ended with status $?"
+    cmp -s "$room/out" "$expected" || fail "a user who may only read: $each printed something else"
+done
 must_have_built "$builds" 'a user who may only read'
 chmod -R u+w "$tree" && touch "$tree/crates.txt" && chmod -R a-w "$tree"
-$as "$tree/bench" "$script" >"$room/out" 2>"$room/err" && fail 'a user who may only read ran what is not built'
-grep -q 'can.t be written' "$room/err" || fail "a user who may only read, and nothing built: $(cat "$room/err")"
+for each in bench scanlist; do
+    try $each
+    $as "$tree/$each" "$input" >"$room/out" 2>"$room/err" && fail "a user who may only read ran a $each that is not built"
+    grep -q "^$each: .*can.t be written" "$room/err" || fail "a user who may only read, and nothing built: $(cat "$room/err")"
+done

@@ -1,5 +1,5 @@
-# What ./bench, ./test and host/run know of the tree: where the kit is, what is newer than what, and how one run builds while the
-# others wait. They read this file with root set to the repository's folder, and who to the name that messages begin with.
+# What ./bench, ./scanlist, ./test and host/run know of the tree: where the kit is, what is newer than what, and how one run builds
+# while the others wait. They read this file with root set to the repository's folder, and who to the name that messages begin with.
 #
 # Two rt that prove in one tree spoil each other's work, so whoever starts one holds the tree. The lock lies on crates.txt, which
 # no build removes, and is handed down to all that the build starts: the kernel lets it go with the last of them, however it ends.
