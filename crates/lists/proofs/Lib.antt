@@ -1,2 +1,4 @@
 pub mod OutLaws
 pub mod ListLaws
+pub mod TotalLaws
+pub mod EnoughLaws

@@ -2,4 +2,5 @@ pub mod FieldLaws
 pub mod JudgeLaws
 pub mod StepLaws
 pub mod MadeLaws
+pub mod FrontLaws
 pub mod Cases
