@@ -6,7 +6,7 @@ use Prim.Native.Nat.{ℕ, _≤_}
 use native.Mathlib.Omega.{arith}
 use lib.ListN.{length, take, drop}
 use lib.Dec.{eqb}
-use borrow.Author.Tests.{eqb-true}
+use borrow.Author.Tests.{eqb-true, le-leb}
 use Rattle.text.specs.Text.{same, bytes}
 use Rattle.line.specs.declared.Fields.{Fields}
 use Rattle.line.specs.declared.Written.{Written}
@@ -18,7 +18,7 @@ use Rattle.line.specs.declared.Order.{Order}
 use Rattle.line.specs.declared.Parsed.{Parsed}
 use Rattle.line.specs.declared.Parsed.the-variants.{Is, Nothing}
 use Rattle.line.specs.Shapes.{noFields, withChannel, withWritten, withFirst, withSecond, readFields}
-use Rattle.line.specs.Forms.{Row, forms, those, complete, fieldsAsRow, asRow, orderOf}
+use Rattle.line.specs.Forms.{Row, forms, those, complete, fieldsAsRow, asRow, firstOf, firstForm, orderOf}
 use Rattle.line.specs.Computing.{computing-line}
 use Rattle.line.proofs.StencilLaws.{Range, fits, apart, apart-not, stencil, ends, fields-fit, letters, word-fits}
 
@@ -148,3 +148,31 @@ one-of (r ∷ rs) s h =
 -- No line has two forms.
 pub one-form : (s : List ℕ) → length (formsOf s forms) ≤ 1
 one-form s = one-of forms s forms-apart
+
+-- a row that is apart from several is apart from each
+apart-in : (q : Row) (rs : List Row) (r : Row) (post : List Row) → apartFrom q (rs ++ (r ∷ post)) ≡ true
+    → apart (outline q) (ends (q .fields)) (outline r) (ends (r .fields)) ≡ true
+unfolding apartFrom
+apart-in q [] r post k = and-eq-true-iff (apart (outline q) (ends (q .fields)) (outline r) (ends (r .fields))) (apartFrom q post) .0 k .0
+apart-in q (p ∷ ps) r post k =
+    apart-in q ps r post (and-eq-true-iff (apart (outline q) (ends (q .fields)) (outline p) (ends (p .fields))) (apartFrom q (ps ++ (r ∷ post))) .0 k .1)
+
+-- A row before it does not take a line that has a row's form.
+found-in : (pre : List Row) (r : Row) (post : List Row) (s : List ℕ) (o : Order) → pairwise (pre ++ (r ∷ post)) ≡ true → asRow r s ≡ Is o
+    → firstForm (pre ++ (r ∷ post)) s ≡ Is o
+unfolding firstForm pairwise
+found-in [] r post s o h e = rw e
+found-in (q ∷ qs) r post s o h e =
+    let both = and-eq-true-iff (apartFrom q (qs ++ (r ∷ post))) (pairwise (qs ++ (r ∷ post))) .0 h in
+    go (asRow q s) refl (apart-in q qs r post (both .0)) (found-in qs r post s o (both .1) e)
+  where
+    go : (t : Parsed) → asRow q s ≡ t → apart (outline q) (ends (q .fields)) (outline r) (ends (r .fields)) ≡ true → firstForm (qs ++ (r ∷ post)) s ≡ Is o
+        → firstOf t (firstForm (qs ++ (r ∷ post)) s) ≡ Is o
+    go (Is x) p a f = absurd (false≢true (sym (apart-not (outline q) (ends (q .fields)) (outline r) (ends (r .fields)) s a (row-fits q s x p)) ∙ row-fits r s o e))
+    go Nothing p a f = f
+
+-- A line that has a row's form is that row's order.
+pub row-found : (pre : List Row) (r : Row) (post : List Row) (s : List ℕ) (o : Order) → pre ++ (r ∷ post) ≡ forms → length s ≤ 80 → asRow r s ≡ Is o → orderOf s ≡ Is o
+unfolding orderOf
+row-found pre r post s o w l e =
+    rw (le-leb (length s) 80 l, ← w) (found-in pre r post s o (rw w forms-apart) e)

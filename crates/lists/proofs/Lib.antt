@@ -2,3 +2,4 @@ pub mod OutLaws
 pub mod ListLaws
 pub mod TotalLaws
 pub mod EnoughLaws
+pub mod ScriptLaws

@@ -1,3 +1,4 @@
 pub mod Lines
 pub mod Listing
+pub mod Script
 pub mod Computing

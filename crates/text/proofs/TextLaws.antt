@@ -217,17 +217,17 @@ value-written (suc k) n h =
     let below : n / 10 < 10 ^ k = div-lt-iff-lt-mul {k = 10} (omega arith) .1 (rw (pow-suc 10 k) at h) in
     rw (value-last 0 (lastDigits k (n / 10)) (digitByte (n % 10)), value-written k (n / 10) below) (omega (arith, div-add-mod n 10))
 
-power-below : (k : ℕ) → 10 ^ k ≤ 10 ^ suc k
+pub power-below : (k : ℕ) → 10 ^ k ≤ 10 ^ suc k
 power-below k = pow-le-pow-right {n = 10} (omega arith) (omega arith)
 
 -- No number is written with too few digits: one above 10 to the k has all the powers up to that.
-powers-all : (k n : ℕ) → 10 ^ k ≤ n → powersUpTo k n ≡ k
+pub powers-all : (k n : ℕ) → 10 ^ k ≤ n → powersUpTo k n ≡ k
 unfolding powersUpTo
 powers-all zero n h = refl
 powers-all (suc k) n h =
     rw (le-leb (10 ^ suc k) n h, powers-all k n (omega (arith, power-below k)), add-one)
 
-count-enough : (k n : ℕ) → n < 10 ^ suc k → n < 10 ^ suc (powersUpTo k n)
+pub count-enough : (k n : ℕ) → n < 10 ^ suc k → n < 10 ^ suc (powersUpTo k n)
 unfolding powersUpTo
 count-enough zero n h = h
 count-enough (suc k) n h = go (leb (10 ^ suc k) n) refl (count-enough k n)
