@@ -3,3 +3,4 @@ pub mod ListLaws
 pub mod TotalLaws
 pub mod EnoughLaws
 pub mod ScriptLaws
+pub mod Cases

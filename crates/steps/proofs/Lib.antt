@@ -3,4 +3,5 @@ pub mod JudgeLaws
 pub mod StepLaws
 pub mod MadeLaws
 pub mod FrontLaws
+pub mod ExactLaws
 pub mod Cases

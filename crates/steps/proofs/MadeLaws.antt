@@ -53,11 +53,11 @@ Made at (Wait x n) = Dwelt x n
 -- ---- judging
 
 -- what is taken is whole and in range, and what is not has 24 or 25
-abbrev Fit : Float → Bool → ℕ → Judged → Type 0
+abbrev pub Fit : Float → Bool → ℕ → Judged → Type 0
 Fit x fits n (Number k) = (isWhole x ≡ true) × (fits ≡ true) × (k ≡ n)
 Fit x fits n (Unfit k) = (24 ≤ k) × (k ≤ 25)
 
-fit : (x : Float) (fits : Bool) (n : ℕ) → Fit x fits n (judgedAs x fits n)
+pub fit : (x : Float) (fits : Bool) (n : ℕ) → Fit x fits n (judgedAs x fits n)
 fit x fits n = go (isWhole x) refl fits refl
   where
     go : (t : Bool) → isWhole x ≡ t → (u : Bool) → fits ≡ u → Fit x fits n (cond t (cond u (Number n) (Unfit 25)) (Unfit 24))
@@ -83,7 +83,7 @@ placed x = go (judgedAs x (leb (sizeOf x) 2147483647) (moved (cond (isMinus x) c
     go (Unfit k) h = h
 
 -- a number from 1 on
-abbrev Counted : ℕ → Float → Judged → Type 0
+abbrev pub Counted : ℕ → Float → Judged → Type 0
 Counted most x (Number n) = (isWhole x ≡ true) × (isMinus x ≡ false) × (sizeOf x ≡ n) × (1 ≤ n) × (n ≤ most)
 Counted most x (Unfit k) = (24 ≤ k) × (k ≤ 25)
 
@@ -96,7 +96,7 @@ all-three n most minus e = go (leb 1 n) refl minus (leb n most) refl e
     go true p true b q h = absurd (true≢false (sym h))
     go false p m b q h = absurd (true≢false (sym h))
 
-counted : (most : ℕ) (x : Float) → Counted most x (judgedNumber most x)
+pub counted : (most : ℕ) (x : Float) → Counted most x (judgedNumber most x)
 unfolding judgedNumber
 counted most x = go (leb 1 (sizeOf x) && not (isMinus x) && leb (sizeOf x) most) refl
   where
