@@ -27,6 +27,7 @@ use Rattle.steps.specs.declared.Ending.{Ending}
 use Rattle.steps.specs.declared.Ending.the-variants.{Complete, Refused}
 use Rattle.steps.specs.declared.Step.{Step}
 use Rattle.steps.specs.declared.Step.the-variants.{Last, Drive, Wait}
+use Rattle.steps.specs.Numbers.{notWhole, outOfRange}
 use Rattle.steps.specs.Fields.{tagAt, lengthAt, valueAt, ended, isCut, valueSize, frameFault, doubleAt}
 use Rattle.steps.specs.Judging.{judgedAs, judgedPlace, judgedNumber, judgedPoint, judgedSpeed}
 use Rattle.steps.specs.Steps.{faultAt, channelOf, dwellOf, openingAt, aimOf, aimAt, rateAt, isDistance, sped, ratedBy, aimedBy, pointedBy, moveAt, openedBy, stepAt, excess, beyondAt}
@@ -60,7 +61,7 @@ Fit x fits n (Unfit k) = (24 ≤ k) × (k ≤ 25)
 pub fit : (x : Float) (fits : Bool) (n : ℕ) → Fit x fits n (judgedAs x fits n)
 fit x fits n = go (isWhole x) refl fits refl
   where
-    go : (t : Bool) → isWhole x ≡ t → (u : Bool) → fits ≡ u → Fit x fits n (cond t (cond u (Number n) (Unfit 25)) (Unfit 24))
+    go : (t : Bool) → isWhole x ≡ t → (u : Bool) → fits ≡ u → Fit x fits n (cond t (cond u (Number n) (Unfit outOfRange)) (Unfit notWhole))
     go true e true f = (e, f, refl)
     go true e false f = (omega arith, omega arith)
     go false e u f = (omega arith, omega arith)

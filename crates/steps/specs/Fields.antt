@@ -7,6 +7,7 @@ use lib.Dec.{leb, ltb, eqb}
 use lib.Ieee.{Float, binary64, ofBits}
 use Rattle.digits.specs.Bytes.{part}
 use Rattle.digits.specs.Words.{word}
+use Rattle.steps.specs.Numbers.{cutShort, tagOrOrder, wrongLength}
 
 -- "one-byte tag": that of the field at a place
 unfoldable pub tagAt : List ℕ → ℕ → ℕ
@@ -32,14 +33,14 @@ isCut s at = ltb (length s) (at + 3) || ltb (length s) (at + 3 + lengthAt s at)
 abbrev pub valueSize : ℕ → ℕ
 valueSize tag = cond (eqb tag 1) 1 8
 
--- The number that refuses the field at a place where tag a or b is to stand, its value aside; 0 is none. "20 field cut short, 21 tag or
--- order (a list that ends inside a step: at its end), 22 length .. in one field the lower number"
+-- The number that refuses the field at a place where tag a or b is to stand, its value aside; 0 is none. "a list that ends inside a
+-- step: at its end", "in one field the lower number"
 unfoldable pub frameFault : ℕ → ℕ → List ℕ → ℕ → ℕ
 frameFault a b s at =
-    cond (ended s at) 21
-    (cond (isCut s at) 20
-    (cond (not (eqb (tagAt s at) a || eqb (tagAt s at) b)) 21
-    (cond (not (eqb (lengthAt s at) (valueSize (tagAt s at)))) 22
+    cond (ended s at) tagOrOrder
+    (cond (isCut s at) cutShort
+    (cond (not (eqb (tagAt s at) a || eqb (tagAt s at) b)) tagOrOrder
+    (cond (not (eqb (lengthAt s at) (valueSize (tagAt s at)))) wrongLength
     0)))
 
 -- "each an eight-byte double", "low byte first": that of the field at a place

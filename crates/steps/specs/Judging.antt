@@ -9,10 +9,11 @@ use Rattle.steps.specs.declared.SetPoint.{SetPoint}
 use Rattle.steps.specs.declared.SetPoint.the-variants.{Target, Distance, Dwell}
 use Rattle.steps.specs.declared.Judged.{Judged}
 use Rattle.steps.specs.declared.Judged.the-variants.{Number, Unfit}
+use Rattle.steps.specs.Numbers.{notWhole, outOfRange}
 
--- "24 not finite or not whole, 25 out of range", the lower number first; else the number that it stands for
+-- not finite or not whole, then out of range, "the lower number" first; else the number that it stands for
 abbrev pub judgedAs : Float → Bool → ℕ → Judged
-judgedAs x fits n = cond (isWhole x) (cond fits (Number n) (Unfit 25)) (Unfit 24)
+judgedAs x fits n = cond (isWhole x) (cond fits (Number n) (Unfit outOfRange)) (Unfit notWhole)
 
 -- "positions .. as in 01": from -2,147,483,647 to +2,147,483,647, by its place
 unfoldable pub judgedPlace : Float → Judged

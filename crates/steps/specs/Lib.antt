@@ -1,3 +1,4 @@
+pub mod Numbers
 pub mod Fields
 pub mod Judging
 pub mod Steps

@@ -20,6 +20,7 @@ use Rattle.steps.specs.declared.Ending.{Ending}
 use Rattle.steps.specs.declared.Ending.the-variants.{Complete, Refused}
 use Rattle.steps.specs.declared.Step.{Step}
 use Rattle.steps.specs.declared.Step.the-variants.{Last, Drive, Wait}
+use Rattle.steps.specs.Numbers.{wrongChannel, tooMany}
 use Rattle.steps.specs.Fields.{tagAt, valueAt, ended, frameFault, doubleAt}
 use Rattle.steps.specs.Judging.{judgedPoint, judgedSpeed}
 
@@ -29,9 +30,9 @@ faultAt number at = record { number = number; offset = at }
 
 -- ---- the fields
 
--- "23 channel": one of 0 to 15
+-- the channel is one of 0 to 15
 abbrev pub channelOf : ℕ → ℕ → Opening
-channelOf b at = cond (leb b 15) (Channel b) (Bad (faultAt 23 at))
+channelOf b at = cond (leb b 15) (Channel b) (Bad (faultAt wrongChannel at))
 
 -- a dwell, judged
 abbrev pub dwellOf : Float → Judged → ℕ → Opening
@@ -124,8 +125,8 @@ stepAt s at = cond (ended s at) (Last Complete) (openedBy s at (openingAt s at))
 
 -- "26 a step after the 10,000th", "in one field the lower number": what stands at a place where no more step may
 abbrev pub excess : ℕ → Opening → Ending
-excess at (Channel c) = Refused (faultAt 26 at)
-excess at (Good x n) = Refused (faultAt 26 at)
+excess at (Channel c) = Refused (faultAt tooMany at)
+excess at (Good x n) = Refused (faultAt tooMany at)
 excess at (Bad f) = Refused f
 
 unfoldable pub beyondAt : List ℕ → ℕ → Ending

@@ -1,5 +1,8 @@
 // A field of a list, as far as its value is not looked at: "one-byte tag, two-byte length and value, low byte first".
 
+use crate::CUT_SHORT;
+use crate::TAG_OR_ORDER;
+use crate::WRONG_LENGTH;
 use digits::words::byte_at;
 use digits::words::short_at;
 use digits::words::wide_at;
@@ -33,20 +36,20 @@ pub fn frame_fault(list: &[u8], at: usize, a: u8, b: u8) -> u32
     ensures { λ r. ⌜ r ≡ frameFault a b (now (list .entry)) at ⌝ }
 {
     if list.len() <= at {
-        return 21;
+        return TAG_OR_ORDER;
     }
     if is_cut(list, at) {
-        return 20;
+        return CUT_SHORT;
     }
     let tag = byte_at(list, at);
     if (tag == a) | (tag == b) {
         if short_at(list, at + 1) == value_size(tag) {
             0
         } else {
-            22
+            WRONG_LENGTH
         }
     } else {
-        21
+        TAG_OR_ORDER
     }
 }
 

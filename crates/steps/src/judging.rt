@@ -1,6 +1,8 @@
 // What a double is worth: "finite, whole and in range".
 
 use crate::Judged;
+use crate::NOT_WHOLE;
+use crate::OUT_OF_RANGE;
 use crate::SetPoint;
 use digits::places::ORIGIN;
 use doubles::Measure;
@@ -19,10 +21,10 @@ fn judge_place(x: f64) -> Judged
                 let n = size as u32;
                 Judged::Number(if minus { ORIGIN - n } else { ORIGIN + n })
             } else {
-                Judged::Unfit(25)
+                Judged::Unfit(OUT_OF_RANGE)
             }
         }
-        Measure::Broken => Judged::Unfit(24),
+        Measure::Broken => Judged::Unfit(NOT_WHOLE),
     }
 }
 
@@ -36,10 +38,10 @@ fn judge_number(x: f64, most: u32) -> Judged
             if (1 <= size) & !minus & (size <= most as u64) {
                 Judged::Number(size as u32)
             } else {
-                Judged::Unfit(25)
+                Judged::Unfit(OUT_OF_RANGE)
             }
         }
-        Measure::Broken => Judged::Unfit(24),
+        Measure::Broken => Judged::Unfit(NOT_WHOLE),
     }
 }
 

@@ -5,6 +5,21 @@ pub mod frames;
 pub mod judging;
 pub mod reading;
 
+// The numbers of what refuses a list.
+pub const CUT_SHORT: u32 = 20;
+
+pub const TAG_OR_ORDER: u32 = 21;
+
+pub const WRONG_LENGTH: u32 = 22;
+
+pub const WRONG_CHANNEL: u32 = 23;
+
+pub const NOT_WHOLE: u32 = 24;
+
+pub const OUT_OF_RANGE: u32 = 25;
+
+pub const TOO_MANY: u32 = 26;
+
 // A set-point, with the double that it came with.
 pub enum SetPoint {
     Target(f64),

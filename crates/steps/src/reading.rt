@@ -10,6 +10,8 @@ use crate::Pair;
 use crate::Rate;
 use crate::SetPoint;
 use crate::Step;
+use crate::TOO_MANY;
+use crate::WRONG_CHANNEL;
 use crate::frames::double_at;
 use crate::frames::frame_fault;
 use crate::judging::judge_point;
@@ -39,7 +41,7 @@ fn channel_of(b: u8, at: usize) -> Opening
         Opening::Channel(b)
     } else {
         Opening::Bad(Fault {
-            number: 23,
+            number: WRONG_CHANNEL,
             offset: at,
         })
     }
@@ -251,7 +253,7 @@ pub fn beyond_at(list: &[u8], at: usize) -> Ending
         return Ending::Complete;
     }
     let too_many = Fault {
-        number: 26,
+        number: TOO_MANY,
         offset: at,
     };
     match opening_at(list, at) {
