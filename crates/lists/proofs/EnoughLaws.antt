@@ -9,7 +9,7 @@ use lib.Dec.{leb}
 use lib.IntN.{pos}
 use lib.ListN.{length, take, drop, getD, length-take, take-append-drop}
 use lib.Seq.{take-all}
-use lib.Ieee.{Float, binary64, add, ofInt}
+use lib.Ieee.{Float, binary64, ofInt}
 use borrow.Author.Tests.{leb-true, leb-false}
 use Rattle.digits.specs.Bytes.{AllBytes, part}
 use Rattle.digits.proofs.PartLaws.{part-bytes}
@@ -30,7 +30,7 @@ front-from a b all l (suc k) total at h = rw (step-front a b all at (omega arith
         → printedBy asDoubles (printedFrom asDoubles k (a ++ b)) total at s ≡ printedBy asDoubles (printedFrom asDoubles k a) total at s
     go (Last e) rest = refl
     go (Drive m) rest = ap (λ (x : List ℕ). moveText m ++ x) (rest total (at + 26) (omega arith))
-    go (Wait x n) rest = ap (λ (y : List ℕ). waitText n ++ y) (rest (add binary64 total x) (at + 11) (omega arith))
+    go (Wait x n) rest = ap (λ (y : List ℕ). waitText n ++ y) (rest (asDoubles .more total x n) (at + 11) (omega arith))
 
 -- What is printed for a list of bytes is what is printed for its front, if that has so many.
 pub front-enough : (s : List ℕ) (n : ℕ) → AllBytes s → 325538 ≤ n → printed (take n s) ≡ printed s

@@ -14,7 +14,7 @@ use Rattle.jobs.specs.Texts.{plainText, signedText}
 use Rattle.jobs.proofs.OutLaws.{text-more}
 use Rattle.steps.specs.declared.Fault.{Fault}
 use Rattle.steps.specs.declared.Move.{Move}
-use Rattle.lists.specs.Lines.{settingText, selectText, goingText, moveText, waitText, totalText, faultText}
+use Rattle.lists.specs.Lines.{startWord, settingText, selectText, goingText, moveText, waitText, totalText, faultText}
 
 -- a text that is written into what is left after another one
 pub wrote-more : (before mid part s t : List ℕ) (n k : ℕ) → Wrote before mid s n → length mid ≡ length before → n + length t ≤ length before
@@ -48,13 +48,16 @@ pub select-within : (m : Move) → length (selectText m) ≡ 8
 unfolding selectText bytes
 select-within m = refl
 
+word-size : (relative : Bool) → length (startWord relative) ≡ 5
+unfolding bytes
+word-size true = refl
+word-size false = refl
+
 pub going-within : (m : Move) → length (goingText m) ≤ 18
 unfolding goingText
-going-within m = go (m .relative)
-  where
-    go : (t : Bool) → length (cond t (bytes "C REL") (bytes "C ABS") ++ (hexDigit (m .channel) ∷ signedText (m .place)) ++ bytes "\n") ≤ 18
-    go true = unfold bytes in rw length-append (omega (arith, signed-within 1 (m .place) (omega arith)))
-    go false = unfold bytes in rw length-append (omega (arith, signed-within 1 (m .place) (omega arith)))
+going-within m =
+    let end : length (bytes "\n") ≡ 1 = unfold bytes in refl in
+    rw (length-append, length-append) (omega (arith, word-size (m .relative), end, signed-within 1 (m .place) (omega arith)))
 
 pub speed-within : (m : Move) → length (settingText m ++ selectText m) ≤ 26
 speed-within m = rw length-append (omega (arith, setting-within m, select-within m))

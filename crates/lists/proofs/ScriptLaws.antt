@@ -41,7 +41,7 @@ use Rattle.steps.specs.declared.Step.{Step}
 use Rattle.steps.specs.declared.Step.the-variants.{Last, Drive, Wait}
 use Rattle.steps.specs.Steps.{stepAt, beyondAt}
 use Rattle.steps.proofs.MadeLaws.{Made, Ended, step-made, beyond-made}
-use Rattle.lists.specs.Lines.{lined, settingText, selectText, goingText, moveText, waitText, totalText, faultText}
+use Rattle.lists.specs.Lines.{lined, startWord, settingText, selectText, goingText, moveText, waitText, totalText, faultText}
 use Rattle.lists.specs.Listing.{Adding, asDoubles, lastText, printedBy, printedFrom, printedWith, printed}
 use Rattle.lists.specs.Script.{inForm, takenAs, isOther, scriptFrom, isScript}
 
@@ -155,7 +155,7 @@ near p h l = le-leb (distance p) 2147483647 (go (leb origin p) refl)
     go true e = omega arith
     go false e = omega (arith, leb-false origin p e)
 
-going-taken : (first relative : Bool) (c p : ℕ) → c < 16 → 1 ≤ p → p ≤ 4294967295 → Taken first (cond relative (bytes "C REL") (bytes "C ABS") ++ (hexDigit c ∷ signedText p))
+going-taken : (first relative : Bool) (c p : ℕ) → c < 16 → 1 ≤ p → p ≤ 4294967295 → Taken first (startWord relative ++ (hexDigit c ∷ signedText p))
 unfolding bytes valueInRange
 going-taken first true c p h l m = sent first (bytes "REL" ++ (hexDigit c ∷ signedText p)) (Go c (Rel (started c p .written))) (relative-order c p h m) (near p l m)
 going-taken first false c p h l m = sent first (bytes "ABS" ++ (hexDigit c ∷ signedText p)) (Go c (Abs (started c p .written))) (absolute-order c p h m) (near p l m)
@@ -275,11 +275,11 @@ move-script first m t h k =
     going : isScript first (linesOf t) ≡ true → isScript first (linesOf (goingText m ++ t)) ≡ true
     going q =
         unfold goingText in
-        script-more first (cond (m .relative) (bytes "C REL") (bytes "C ABS") ++ (hexDigit (m .channel) ∷ signedText (m .place))) t
-        (unbroken-both (cond (m .relative) (bytes "C REL") (bytes "C ABS")) (hexDigit (m .channel) ∷ signedText (m .place)) (words (m .relative)) (unbroken-hex (m .channel) (signedText (m .place)) (unbroken-signed (m .place))))
+        script-more first (startWord (m .relative) ++ (hexDigit (m .channel) ∷ signedText (m .place))) t
+        (unbroken-both (startWord (m .relative)) (hexDigit (m .channel) ∷ signedText (m .place)) (words (m .relative)) (unbroken-hex (m .channel) (signedText (m .place)) (unbroken-signed (m .place))))
         (going-taken first (m .relative) (m .channel) (m .place) (h .0) (h .1) (h .2)) q
       where
-        words : (t : Bool) → unbroken (cond t (bytes "C REL") (bytes "C ABS")) ≡ true
+        words : (t : Bool) → unbroken (startWord t) ≡ true
         words true = unfold unbroken bytes in refl
         words false = unfold unbroken bytes in refl
 

@@ -4,7 +4,7 @@ use Prim.Native.Char.{code}
 use Prim.Native.Nat.{ℕ}
 use Prim.Native.String as S
 use mathlib.Core.List.{List, [], _∷_, _++_}
-use mathlib.Core.Bool.{cond}
+use mathlib.Core.Bool.{Bool, cond}
 use Rattle.text.specs.Text.{bytes, hexDigit}
 use Rattle.jobs.specs.Texts.{plainText, signedText}
 use Rattle.steps.specs.declared.Fault.{Fault}
@@ -26,9 +26,13 @@ settingText m = lined (bytes "C SPDM" ++ (hexDigit (m .channel) ∷ plainText (m
 unfoldable pub selectText : Move → List ℕ
 selectText m = lined (bytes "C SPDM" ++ (hexDigit (m .channel) ∷ []))
 
--- "the move": `ABSx±d`, and `RELx±d` for a distance; "signed ones carry a sign, + for 0"
+-- "the move": `ABSx±d`, and `RELx±d` for a distance
+abbrev pub startWord : Bool → List ℕ
+startWord relative = cond relative (bytes "C REL") (bytes "C ABS")
+
+-- "signed ones carry a sign, + for 0"
 unfoldable pub goingText : Move → List ℕ
-goingText m = lined (cond (m .relative) (bytes "C REL") (bytes "C ABS") ++ (hexDigit (m .channel) ∷ signedText (m .place)))
+goingText m = lined (startWord (m .relative) ++ (hexDigit (m .channel) ∷ signedText (m .place)))
 
 -- "SPDM with the speed, the select, the move"
 unfoldable pub moveText : Move → List ℕ

@@ -7,6 +7,7 @@ use native.Mathlib.Omega.{arith}
 use lib.Dec.{leb, ltb, eqb}
 use lib.ListN.{length}
 use borrow.Author.Tests.{ltb-true, ltb-false, leb-true, leb-false, eqb-true, eqb-false, eq-eqb, ne-eqb, lt-ltb, le-ltb}
+use Rattle.steps.specs.Numbers.{cutShort, tagOrOrder, wrongLength}
 use Rattle.steps.specs.Fields.{tagAt, lengthAt, ended, isCut, valueSize, frameFault}
 
 -- a field that is not cut short is there up to its last byte
@@ -34,7 +35,7 @@ unfolding frameFault
 framed a b s at e = go (ended s at) (isCut s at) refl (eqb (tagAt s at) a || eqb (tagAt s at) b) (eqb (lengthAt s at) (valueSize (tagAt s at))) refl e
   where
     go : (t u : Bool) → isCut s at ≡ u → (v w : Bool) → eqb (lengthAt s at) (valueSize (tagAt s at)) ≡ w
-        → _≡_ {A = ℕ} (cond t 21 (cond u 20 (cond (not v) 21 (cond (not w) 22 0)))) 0 → (v ≡ true) × (at + 3 + valueSize (tagAt s at) ≤ length s)
+        → _≡_ {A = ℕ} (cond t tagOrOrder (cond u cutShort (cond (not v) tagOrOrder (cond (not w) wrongLength 0)))) 0 → (v ≡ true) × (at + 3 + valueSize (tagAt s at) ≤ length s)
     go true u p v w q z = absurd (omega arith)
     go false true p v w q z = absurd (omega arith)
     go false false p false w q z = absurd (omega arith)

@@ -27,7 +27,7 @@ use Rattle.steps.specs.declared.Ending.{Ending}
 use Rattle.steps.specs.declared.Ending.the-variants.{Complete, Refused}
 use Rattle.steps.specs.declared.Step.{Step}
 use Rattle.steps.specs.declared.Step.the-variants.{Last, Drive, Wait}
-use Rattle.steps.specs.Numbers.{notWhole, outOfRange}
+use Rattle.steps.specs.Numbers.{cutShort, tagOrOrder, wrongLength, wrongChannel, notWhole, outOfRange}
 use Rattle.steps.specs.Fields.{tagAt, lengthAt, valueAt, ended, isCut, valueSize, frameFault, doubleAt}
 use Rattle.steps.specs.Judging.{judgedAs, judgedPlace, judgedNumber, judgedPoint, judgedSpeed}
 use Rattle.steps.specs.Steps.{faultAt, channelOf, dwellOf, openingAt, aimOf, aimAt, rateAt, isDistance, sped, ratedBy, aimedBy, pointedBy, moveAt, openedBy, stepAt, excess, beyondAt}
@@ -129,8 +129,8 @@ framed : (a b : ℕ) (s : List ℕ) (at : ℕ) → eqb (frameFault a b s at) 0 �
 unfolding frameFault
 framed a b s at e = go (ended s at) (isCut s at) (eqb (tagAt s at) a || eqb (tagAt s at) b) (eqb (lengthAt s at) (valueSize (tagAt s at))) e
   where
-    go : (t u v w : Bool) → eqb (cond t 21 (cond u 20 (cond (not v) 21 (cond (not w) 22 0)))) 0 ≡ false
-        → FaultAt at (faultAt (cond t 21 (cond u 20 (cond (not v) 21 (cond (not w) 22 0)))) at)
+    go : (t u v w : Bool) → eqb (cond t tagOrOrder (cond u cutShort (cond (not v) tagOrOrder (cond (not w) wrongLength 0)))) 0 ≡ false
+        → FaultAt at (faultAt (cond t tagOrOrder (cond u cutShort (cond (not v) tagOrOrder (cond (not w) wrongLength 0)))) at)
     go true u v w h = (omega arith, omega arith, refl)
     go false true v w h = (omega arith, omega arith, refl)
     go false false false w h = (omega arith, omega arith, refl)
@@ -146,7 +146,7 @@ opened : (s : List ℕ) (at : ℕ) → Opened at (openingAt s at)
 unfolding openingAt
 opened s at = go (eqb (frameFault 1 5 s at) 0) refl (eqb (tagAt s at) 1)
   where
-    channel : (t : Bool) (b : ℕ) → leb b 15 ≡ t → Opened at (cond t (Channel b) (Bad (faultAt 23 at)))
+    channel : (t : Bool) (b : ℕ) → leb b 15 ≡ t → Opened at (cond t (Channel b) (Bad (faultAt wrongChannel at)))
     channel true b e = omega (arith, leb-true b 15 e)
     channel false b e = (omega arith, omega arith, refl)
 
