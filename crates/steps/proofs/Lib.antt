@@ -4,4 +4,5 @@ pub mod StepLaws
 pub mod MadeLaws
 pub mod FrontLaws
 pub mod ExactLaws
+pub mod FaultLaws
 pub mod Cases

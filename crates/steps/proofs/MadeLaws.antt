@@ -67,7 +67,7 @@ fit x fits n = go (isWhole x) refl fits refl
     go false e u f = (omega arith, omega arith)
 
 -- a position's place
-abbrev Placed : Judged → Type 0
+abbrev pub Placed : Judged → Type 0
 Placed (Number p) = (1 ≤ p) × (p ≤ 4294967295)
 Placed (Unfit k) = (24 ≤ k) × (k ≤ 25)
 
@@ -109,7 +109,7 @@ counted most x = go (leb 1 (sizeOf x) && not (isMinus x) && leb (sizeOf x) most)
     go fits e = by fits e (judgedAs x fits (sizeOf x)) (fit x fits (sizeOf x))
 
 -- every set-point
-pointed : (p : SetPoint) → Placed (judgedPoint p)
+pub pointed : (p : SetPoint) → Placed (judgedPoint p)
 unfolding judgedPoint
 pointed (Target x) = placed x
 pointed (Distance x) = placed x

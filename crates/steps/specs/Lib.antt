@@ -2,4 +2,5 @@ pub mod Numbers
 pub mod Fields
 pub mod Judging
 pub mod Steps
+pub mod Faults
 pub mod Computing
