@@ -1,7 +1,7 @@
 #!/usr/bin/env python3
 """A second opinion on scan lists (document 02, request §8).
 
-Written from documents 01 and 02 and their decided open points (8.1 to 8.17),
+Written from documents 01 and 02 and their decided open points,
 by someone who saw neither the code nor the definitions.
 
     python3 listmodel.py <list >text
@@ -48,7 +48,7 @@ def read_field(data, offset, tags):
         raise Refusal(21, offset)   # "a list that ends inside a step: at its end"
 
     # The length as written decides whether a field is cut short, whatever its
-    # tag: a list must be cut into fields before tags mean anything (8.1, 8.2).
+    # tag: a list must be cut into fields before tags mean anything.
     if len(data) - offset < 3:
         raise Refusal(20, offset)
     tag, length = struct.unpack_from("<BH", data, offset)
@@ -91,7 +91,7 @@ def printed(data: bytes) -> bytes:
             first = offset
             tag, value, offset = read_field(data, first, (CHANNEL, DWELL))
             # "26 a step after the 10,000th" stands at that step's first field:
-            # after that field's own faults, before all that follows it (8.10).
+            # after that field's own faults, before all that follows it.
             if steps == MOST_STEPS:
                 raise Refusal(26, first)
             if tag == DWELL:
@@ -102,8 +102,8 @@ def printed(data: bytes) -> bytes:
                 assert total == whole_sum
             else:
                 # A target is judged before its speed's field is looked at: "the
-                # first fault in the list counts" (8.9). Nothing of the move is
-                # printed before its last field is taken (8.12).
+                # first fault in the list counts". Nothing of the move is
+                # printed before its last field is taken.
                 x = "%X" % value
                 tag, set_point, offset = read_field(data, offset, (TARGET, DISTANCE))
                 _, speed, offset = read_field(data, offset, (SPEED,))

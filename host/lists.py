@@ -186,11 +186,16 @@ def other_fixed():
         yield '9,999 %s and a step that is cut' % name, one_less + channel(0) + target(1)
 
     # The longest field that there is, in every place, whole and with its last byte missing.
-    for before in (b'', dwell(1), channel(0), channel(0) + target(1), channel(0) + target(NAN), dwell(1) * MOST):
+    for before in (b'', dwell(1), channel(0), channel(0) + target(1), channel(0) + target(NAN), dwell(1) * MOST, moves * MOST):
         for tag in (0, CHANNEL, TARGET, DISTANCE, SPEED, DWELL, 255):
             for length in (65535, 65534):
                 yield ('tag %d with length 65535 and %d bytes, after %d' % (tag, length, len(before)),
                        before + field(tag, bytes(length), 65535))
+    # More bytes than can matter: after a fault, and after the last step that a list may have.
+    for before in (b'', dwell(1), moves * MOST):
+        yield '%d bytes and half a million zeros' % len(before), before + bytes(500000)
+        yield '%d bytes and half a million of a dwell' % len(before), before + (dwell(1) * 50000)[:500000]
+
     for length in (255, 256, 257, 0x0801, 0x1000, 0x8000):
         yield 'a dwell of %d bytes' % length, field(DWELL, bytes(length)) + dwell(1)
         yield 'a channel of %d bytes' % length, field(CHANNEL, bytes(length)) + dwell(1)
@@ -356,7 +361,7 @@ def from_pipe(command, data, portion):
         process = subprocess.Popen(command, stdin=subprocess.PIPE, stdout=out, stderr=err, bufsize=0)
         pipe = process.stdin.fileno()
         until = time.monotonic() + SECONDS
-        at = 0
+        at, unread = 0, False
         try:
             while at < len(data):
                 at += os.write(pipe, data[at:at + (portion if at else portion // 2 + 1)])
@@ -365,7 +370,7 @@ def from_pipe(command, data, portion):
                         raise subprocess.TimeoutExpired(command, SECONDS)
                     time.sleep(0.0001)
         except BrokenPipeError:
-            pass  # it has had enough: the list is refused
+            unread = True  # it has to take the list to its end, whoever writes it
         except subprocess.TimeoutExpired:
             process.kill()
         process.stdin.close()
@@ -376,6 +381,8 @@ def from_pipe(command, data, portion):
             process.wait()
         out.seek(0)
         err.seek(0)
+        if unread and not process.returncode:
+            return out.read(), 'it did not read the list to its end'
         return ended(process, out.read(), err.read())
 
 

@@ -48,6 +48,12 @@ for each in bench scanlist; do
     [ ! -s "$room/err" ] || fail "with head -n 1, where SIGPIPE is ignored, $each said: $(cat "$room/err")"
     "$tree/$each" "$much" | wc -l | grep -q "^ *$lines\$" || fail "lines of $each were lost"
 done
+
+# Whoever writes a list may write all of it, also what can't matter any more: here after 10,000 moves, where no step may follow.
+{ { cat "$room/much.bin"; head -c 1000000 /dev/zero; echo $? >"$room/status"; } | "$tree/scanlist" >"$room/out" 2>"$room/err"; } ||
+    fail "scanlist ended a long list with status $?"
+[ "$(cat "$room/status")" = 0 ] || fail 'scanlist did not take a long list to its end'
+[ "$(tail -n 1 "$room/out")" = '21 260000' ] || fail "scanlist ended a long list with the line $(tail -n 1 "$room/out")"
 try bench
 
 # The output fails, the run or the program is killed, while the input goes on: it ends, and does not wait for more.

@@ -3,7 +3,7 @@ use mathlib.Core.Path.{_≡_, refl}
 use mathlib.Core.Bool.{true, false}
 use lib.Ieee.{binary64, ofBits}
 use Rattle.doubles.specs.declared.Measure.the-variants.{Whole, Broken}
-use Rattle.doubles.specs.Doubles.{largest, measureOf}
+use Rattle.doubles.specs.Measures.{largest, measureOf}
 use Rattle.doubles.specs.Computing.{computing-doubles}
 
 -- 0, -0, 1, -1, 2,147,483,647, 10 to the 300

@@ -1,19 +1,19 @@
 -- What a pattern of bits is as a whole number, by its sign, its exponent's field and its digits. Assumes nothing.
-use mathlib.Core.Path.{_≡_, refl, sym, ap, _∙_, subst}
-use mathlib.Core.Bool.{Bool, true, false, not, cond}
+use mathlib.Core.Path.{_≡_, refl, sym, ap, _∙_}
+use mathlib.Core.Bool.{Bool, true, false, cond}
 use Prim.Native.Nat.{ℕ, zero, suc, _+_, _-_, _*_, _/_, _%_, _^_, _≤_, _<_, min}
-use native.Mathlib.Nat.{mul-comm, mul-assoc, mul-right-comm, mul-one, one-mul, zero-mul, add-mul, suc-mul, div-add-mod', div-one, mod-one, mod-eq-of-lt, div-eq-of-lt, mod-lt, lt-of-lt-of-le, mul-le-mul-left, mul-le-mul-right, le-trans, le-of-eq, lt-of-le-of-lt}
+use native.Mathlib.Nat.{mul-comm, mul-assoc, mul-right-comm, mul-one, zero-mul, add-mul, suc-mul, div-add-mod', div-one, mod-one, mod-eq-of-lt, div-eq-of-lt, mod-lt, lt-of-lt-of-le, mul-le-mul-left, le-trans, le-of-eq, lt-of-le-of-lt}
 use native.Mathlib.Omega.{arith}
-use lib.Dec.{leb, eqb, eqb-refl, lit≤}
+use lib.Dec.{leb, eqb, lit≤}
 use lib.Pow.{pow-add, pow-pos, pow-mono, shr-lt}
 use borrow.Author.Tests.{eq-eqb, ne-eqb}
 use lib.Ieee.{Float, nan, inf, fin, binary64, up, down, odd, ofFields, ofBits}
 use lib.Ieee.Fits.{down-pos}
 use lib.Ieee.Exact.{HasValue, odd-sign}
 use lib.Ieee.Nearest.{div-same}
-use Rattle.doubles.specs.declared.Measure.{Measure}
 use Rattle.doubles.specs.declared.Measure.the-variants.{Whole, Broken}
-use Rattle.doubles.specs.Doubles.{isWhole, sizeOf, isMinus, largest, measureOf, fraction}
+use Rattle.doubles.specs.Doubles.{isWhole, sizeOf, isMinus}
+use Rattle.doubles.specs.Measures.{largest, measureOf, fraction}
 
 -- ---- a fraction may be written in several ways, which are whole together
 
@@ -59,16 +59,16 @@ measured (fin t m e) s a c C h = rw (h .0) (fraction-same s (m * up e) (down e) 
 
 -- ---- by the exponent's field
 
-top : (s : Bool) (t : ℕ) (b : Bool) → measureOf (cond b (inf s) nan) ≡ Broken
+top : (s b : Bool) → measureOf (cond b (inf s) nan) ≡ Broken
 unfolding measureOf isWhole
-top s t true = refl
-top s t false = refl
+top s true = refl
+top s false = refl
 
 -- the highest: an infinity, or a NaN
 pub at-top : (s : Bool) (x t : ℕ) → x ≡ 2047 → measureOf (ofFields binary64 s x t) ≡ Broken
 unfolding ofFields
 at-top s zero t h = absurd (omega arith)
-at-top s (suc x) t h = rw (eq-eqb (suc x) 2047 h) (top s t (eqb t 0))
+at-top s (suc x) t h = rw (eq-eqb (suc x) 2047 h) (top s (eqb t 0))
 
 -- another one that is not 0: the digits under a leading one
 pub between : (s : Bool) (x t : ℕ) → (suc x ≡ 2047 → ⊥) → measureOf (ofFields binary64 s (suc x) t) ≡ fraction s ((2 ^ 52 + t) * 2 ^ x) (2 ^ 1074)

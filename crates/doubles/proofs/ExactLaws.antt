@@ -2,16 +2,16 @@
 -- Assumes nothing.
 use mathlib.Core.Path.{_≡_, refl, sym, ap, _∙_}
 use mathlib.Core.Bool.{Bool, true, false, true≢false}
-use Prim.Native.Nat.{ℕ, _+_, _*_, _/_, _%_, _^_, _≤_}
-use native.Mathlib.Nat.{mul-one, add-zero, div-add-mod', mul-div-cancel, mul-mod-left}
-use lib.Dec.{T, eqb}
-use lib.IntN.{ℤ}
-use borrow.Author.Tests.{eqb-true, eq-eqb}
+use Prim.Native.Nat.{ℕ, _*_, _/_, _%_, _≤_}
+use native.Mathlib.Nat.{mul-one, mul-div-cancel, mul-mod-left}
+use lib.Dec.{T}
+use borrow.Author.Tests.{eq-eqb}
 use lib.Ieee.{Float, nan, inf, fin, binary64, up, down, round, fits}
 use lib.Ieee.Fits.{down-pos, round-fits}
 use lib.Ieee.Exact.{HasValue}
 use lib.Ieee.Back.{round-whole, whole-unique}
 use Rattle.doubles.specs.Doubles.{isWhole, sizeOf, isMinus}
+use Rattle.doubles.proofs.SumLaws.{whole-is}
 
 -- the double of a whole number with a sign
 abbrev pub wholeDouble : Bool → ℕ → Float
@@ -21,9 +21,7 @@ valued : (x : Float) → isWhole x ≡ true → HasValue x (isMinus x) (sizeOf x
 unfolding isWhole sizeOf isMinus
 valued nan h = absurd (true≢false (sym h))
 valued (inf s) h = absurd (true≢false (sym h))
-valued (fin s m e) h =
-    let none : m * up e % down e ≡ 0 = eqb-true (m * up e % down e) 0 h in
-    (refl, mul-one (m * up e) ∙ sym (div-add-mod' (m * up e) (down e)) ∙ ap (λ (r : ℕ). m * up e / down e * down e + r) none ∙ add-zero (m * up e / down e * down e))
+valued (fin s m e) h = (refl, mul-one (m * up e) ∙ whole-is s m e h)
 
 pub whole-double : (x : Float) → T (fits binary64 x) → isWhole x ≡ true → sizeOf x ≤ 9007199254740992 → x ≡ wholeDouble (isMinus x) (sizeOf x)
 whole-double x f h l =

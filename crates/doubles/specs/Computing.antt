@@ -2,7 +2,8 @@
 -- shut. It says nothing itself.
 use lib.Count.{trailingZeros}
 use lib.Ieee.{odd, ofFields, ofBits}
-use Rattle.doubles.specs.Doubles.{isWhole, sizeOf, isMinus, measureOf}
+use Rattle.doubles.specs.Doubles.{isWhole, sizeOf, isMinus}
+use Rattle.doubles.specs.Measures.{measureOf}
 
 unfoldable pub computing-doubles : Unit {0}
 unfolding trailingZeros odd ofFields ofBits isWhole sizeOf isMinus measureOf

@@ -1,2 +1,3 @@
 pub mod Doubles
+pub mod Measures
 pub mod Computing

@@ -4,7 +4,7 @@
 ghost use mathlib.Core.Path.{_≡_};
 ghost use Prim.Native.Nat.{_^_, _<_, _≤_};
 ghost use lib.Ieee.{binary64, ofBits};
-ghost use Rattle.doubles.specs.Doubles.{measureOf, fraction};
+ghost use Rattle.doubles.specs.Measures.{measureOf, fraction};
 
 const SIGN: u64 = 0x8000_0000_0000_0000;
 // The weight of the exponent's field, which is also that of the digit before the 52.

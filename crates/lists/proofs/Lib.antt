@@ -1,6 +1,6 @@
 pub mod OutLaws
-pub mod ListLaws
 pub mod TotalLaws
+pub mod ListLaws
 pub mod EnoughLaws
 pub mod ScriptLaws
 pub mod Cases

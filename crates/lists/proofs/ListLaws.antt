@@ -1,20 +1,19 @@
 -- A list that is printed step by step. Assumes nothing.
 use mathlib.Core.Path.{_≡_, refl, sym, ap, _∙_, subst}
-use mathlib.Core.List.{List, [], _∷_, _++_, append-assoc, append-nil}
-use mathlib.Core.Bool.{Bool, true, false, true≢false}
+use mathlib.Core.List.{List, [], _++_, append-assoc}
+use mathlib.Core.Bool.{true, false, true≢false}
 use mathlib.Core.Logic.{_⊎_, inl, inr}
 use Prim.Native.Nat.{ℕ, zero, suc, _+_, _-_, _*_, _≤_, _<_}
 use native.Mathlib.Omega.{arith}
 use lib.IntN.{pos}
 use lib.Dec.{T, le→leb}
 use lib.ListN.{length, take, drop, length-append}
-use lib.Ieee.{Float, binary64, add, ofInt, ofBits, ofFields, round, units, odd, size, span, climb, inUnsigned, inFloat, toUnsigned}
+use lib.Ieee.{Float, binary64, ofInt, ofBits, ofFields, round, units, odd, size, span, climb, inUnsigned, inFloat, toUnsigned}
 use lib.Ieee.Back.{unsigned-back}
 use Rattle.digits.specs.Bytes.{put}
 use Rattle.digits.proofs.PutLaws.{put-none, put-rest, put-after, put-length}
 use Rattle.text.specs.Text.{Wrote}
 use Rattle.jobs.proofs.OutLaws.{text-more}
-use Rattle.doubles.proofs.SumLaws.{add-whole}
 use Rattle.steps.specs.declared.Ending.{Ending}
 use Rattle.steps.specs.declared.Ending.the-variants.{Complete, Refused}
 use Rattle.steps.specs.declared.Step.{Step}
@@ -22,7 +21,9 @@ use Rattle.steps.specs.declared.Step.the-variants.{Last, Drive, Wait}
 use Rattle.steps.specs.declared.Move.{Move}
 use Rattle.steps.specs.Steps.{stepAt, beyondAt}
 use Rattle.steps.proofs.MadeLaws.{Made, Ended, step-made, beyond-made}
-use Rattle.lists.specs.Listing.{Adding, asDoubles, lastText, printedBy, printedFrom, printedWith, printed, offsetIn, textOf, isLast, placeAfter, totalAfter}
+use Rattle.lists.specs.Listing.{Adding, asDoubles, lastText, printedBy, printedFrom}
+use Rattle.lists.specs.Turns.{offsetIn, textOf, isLast, placeAfter, totalAfter}
+use Rattle.lists.proofs.TotalLaws.{dwell-added}
 use Rattle.lists.proofs.OutLaws.{total-within, move-within, wait-within, fault-within}
 
 -- ---- one step
@@ -100,7 +101,7 @@ summed left at total (Drive v) h k m = record { n = k .n; same = k .same; small 
 summed left at total (Wait x n) h k m =
     record {
       n = k .n + n;
-      same = rw (k .same) (add-whole (k .n) x (omega (arith, k .small)) (m .0) (m .1) ∙ ap (λ (i : ℕ). ofInt binary64 (pos (k .n + i))) (m .2));
+      same = rw (k .same) (dwell-added (k .n) n x (omega (arith, k .small)) m);
       small = omega (arith, k .small, m .4);
     }
 

@@ -1,16 +1,16 @@
 -- Lines that are written one after the other, and how long they are. Assumes nothing.
-use mathlib.Core.Path.{_≡_, refl, sym}
+use mathlib.Core.Path.{_≡_, refl}
 use mathlib.Core.List.{List, [], _∷_, _++_, append-assoc}
-use mathlib.Core.Bool.{Bool, true, false, cond}
+use mathlib.Core.Bool.{Bool, true, false}
 use Prim.Native.Char.{code}
 use Prim.Native.Nat.{ℕ, _+_, _-_, _≤_}
 use native.Mathlib.Omega.{arith}
 use lib.ListN.{length, take, drop, length-append}
 use Rattle.digits.specs.Bytes.{put}
 use Rattle.digits.proofs.PutLaws.{put-rest}
-use Rattle.text.specs.Text.{bytes, hexDigit, Wrote}
+use Rattle.text.specs.Text.{bytes, Wrote}
 use Rattle.text.proofs.TextLaws.{decimal-within, signed-within}
-use Rattle.jobs.specs.Texts.{plainText, signedText}
+use Rattle.jobs.specs.Texts.{plainText}
 use Rattle.jobs.proofs.OutLaws.{text-more}
 use Rattle.steps.specs.declared.Fault.{Fault}
 use Rattle.steps.specs.declared.Move.{Move}

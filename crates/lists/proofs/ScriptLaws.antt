@@ -1,37 +1,36 @@
 -- 02 §8: "Output is a bench script". Every line that is printed for a list but the last has its form, and its value in range, by
 -- document 01's own rules of lines, or is a T line that *bench* takes; for the last line *bench* prints `?`. Assumes nothing.
 use Prim.Native.Char.{code}
-use mathlib.Core.Path.{_≡_, refl, sym, ap, _∙_, subst}
+use mathlib.Core.Path.{_≡_, refl, ap}
 use mathlib.Core.List.{List, [], _∷_, _++_, append-assoc, append-nil}
 use mathlib.Core.Bool.{Bool, true, false, _&&_, not, cond, false≢true, and-eq-true-iff}
-use Prim.Native.Nat.{ℕ, zero, suc, _+_, _*_, _-_, _/_, _%_, _≤_, _<_, max}
+use Prim.Native.Nat.{ℕ, zero, suc, _+_, _-_, _/_, _%_, _≤_, _<_, max}
 use native.Mathlib.Omega.{arith}
 use lib.Dec.{eqb, leb, ltb}
-use lib.ListN.{length, take, drop, getD, length-append}
+use lib.ListN.{length, take, drop, getD}
 use lib.IntN.{pos}
-use lib.Ieee.{Float, binary64, ofInt}
-use borrow.Author.Tests.{eqb-true, eq-eqb, ne-eqb, le-leb, leb-false, not-true}
+use lib.Ieee.{binary64, ofInt}
+use borrow.Author.Tests.{eq-eqb, ne-eqb, le-leb, leb-false, not-true}
 use Rattle.digits.specs.Places.{origin}
 use Rattle.text.specs.declared.decimal.Number.the-variants as N
 use Rattle.text.specs.Text.{bytes, same, isDigit, hexDigit, digitByte, digitCount, digitsAtFront, numberAtFront, lastDigits, decimal, signByte, distance, signedDecimal}
-use Rattle.text.proofs.TextLaws.{number-back, length-decimal, decimal-within, signed-within}
+use Rattle.text.proofs.TextLaws.{number-back, decimal-within, signed-within}
 use Rattle.text.proofs.BackLaws.{hex-back, five-within, two-reached, first-digit, digit-at}
 use Rattle.line.specs.declared.Fields.{Fields}
 use Rattle.line.specs.declared.Got.{Got}
-use Rattle.line.specs.declared.Got.the-variants.{Here, Absent}
+use Rattle.line.specs.declared.Got.the-variants.{Here}
 use Rattle.line.specs.declared.Order.{Order}
-use Rattle.line.specs.declared.Order.the-variants.{Go, Set, ForHead}
+use Rattle.line.specs.declared.Order.the-variants.{Go, Set}
 use Rattle.line.specs.declared.Start.the-variants.{Abs, Rel}
 use Rattle.line.specs.declared.Setting.the-variants.{Select, SetSpeed}
-use Rattle.line.specs.declared.HeadOrder.the-variants.{Mode}
-use Rattle.line.specs.declared.Parsed.the-variants.{Is, Nothing}
+use Rattle.line.specs.declared.Parsed.the-variants.{Is}
 use Rattle.line.specs.Shapes.{x, x±d, xd, noFields, withChannel, withWritten, onward, numbered, readFields, readChannel, readNumber, readSigned}
-use Rattle.line.specs.Forms.{Row, row, starting, setting, mspd, forms, complete, fieldsAsRow, asRow, orderOf}
+use Rattle.line.specs.Forms.{row, starting, setting, mspd, forms, fieldsAsRow, asRow, orderOf}
 use Rattle.line.specs.Computing.{computing-line}
 use Rattle.line.proofs.FormLaws.{row-found}
 use Rattle.orders.specs.Values.{valueInRange}
 use Rattle.jobs.specs.declared.Job.the-variants as J
-use Rattle.jobs.specs.Jobs.{linesOf, joined, jobIf, isTicks, waitOf, lettered, jobOf}
+use Rattle.jobs.specs.Jobs.{linesOf, lettered, jobOf}
 use Rattle.jobs.specs.Texts.{plainText, signedText}
 use Rattle.jobs.proofs.JobLaws.{wait-read}
 use Rattle.steps.specs.declared.Ending.{Ending}
@@ -43,7 +42,7 @@ use Rattle.steps.specs.Steps.{stepAt, beyondAt}
 use Rattle.steps.proofs.MadeLaws.{Made, Ended, step-made, beyond-made}
 use Rattle.lists.specs.Lines.{lined, startWord, settingText, selectText, goingText, moveText, waitText, totalText, faultText}
 use Rattle.lists.specs.Listing.{Adding, asDoubles, lastText, printedBy, printedFrom, printedWith, printed}
-use Rattle.lists.specs.Script.{inForm, takenAs, isOther, scriptFrom, isScript}
+use Rattle.lists.specs.Script.{takenAs, isOther, scriptFrom, isScript}
 
 -- ---- the command lines
 

@@ -4,8 +4,8 @@ use lib.Ieee.{round, units, size, span, climb, add, sum, ofInt, toUnsigned}
 use Rattle.text.specs.Computing.{computing-text}
 use Rattle.steps.specs.Computing.{computing-steps}
 use Rattle.lists.specs.Lines.{settingText, selectText, goingText, moveText, waitText, totalText, faultText}
-use Rattle.lists.specs.Listing.{printedFrom, printedWith, printed}
+use Rattle.lists.specs.Listing.{printedFrom, printedWith, printed, totalFrom, totalWith}
 
 unfoldable pub computing-lists : Unit {0}
-unfolding computing-text computing-steps round units size span climb add sum ofInt toUnsigned settingText selectText goingText moveText waitText totalText faultText printedFrom printedWith printed
+unfolding computing-text computing-steps round units size span climb add sum ofInt toUnsigned settingText selectText goingText moveText waitText totalText faultText printedFrom printedWith printed totalFrom totalWith
 computing-lists = tt

@@ -1,7 +1,6 @@
 -- 02 §8: what is printed for a whole list.
 use Prim.Native.Nat.{ℕ, zero, suc, _+_}
-use mathlib.Core.List.{List, [], _++_}
-use mathlib.Core.Bool.{Bool, true, false}
+use mathlib.Core.List.{List, _++_}
 use lib.IntN.{pos}
 use lib.Ieee.{Float, binary64, add, ofInt, toUnsigned}
 use Rattle.steps.specs.declared.Ending.{Ending}
@@ -51,31 +50,15 @@ printedWith by s = openingText ++ printedFrom by 10000 s (by .none) 0
 unfoldable pub printed : List ℕ → List ℕ
 printed s = printedWith asDoubles s
 
--- ---- one step, as the code takes it
+-- the total of the dwells up to where a list ends, of which `totalText` prints the number
+abbrev pub totalBy : {A : Type 0} → Adding A → (A → ℕ → A) → A → ℕ → Step → A
+totalBy by rest total at (Last e) = total
+totalBy by rest total at (Drive m) = rest total (at + 26)
+totalBy by rest total at (Wait x n) = rest (by .more total x n) (at + 11)
 
--- the offset that is printed in a last line; 0 where there is none
-abbrev pub offsetIn : Ending → ℕ
-offsetIn Complete = 0
-offsetIn (Refused f) = f .offset
+unfoldable pub totalFrom : {A : Type 0} → Adding A → ℕ → List ℕ → A → ℕ → A
+totalFrom by zero s total at = total
+totalFrom by (suc k) s total at = totalBy by (totalFrom by k s) total at (stepAt s at)
 
--- the lines of a step, or the last line
-abbrev pub textOf : Float → Step → List ℕ
-textOf total (Last e) = lastText asDoubles total e
-textOf total (Drive m) = moveText m
-textOf total (Wait x n) = waitText n
-
--- nothing is printed after it
-abbrev pub isLast : Step → Bool
-isLast (Last e) = true
-isLast (Drive m) = false
-isLast (Wait x n) = false
-
-abbrev pub placeAfter : ℕ → Step → ℕ
-placeAfter at (Last e) = at
-placeAfter at (Drive m) = at + 26
-placeAfter at (Wait x n) = at + 11
-
-abbrev pub totalAfter : Float → Step → Float
-totalAfter total (Last e) = total
-totalAfter total (Drive m) = total
-totalAfter total (Wait x n) = add binary64 total x
+unfoldable pub totalWith : {A : Type 0} → Adding A → List ℕ → A
+totalWith by s = totalFrom by 10000 s (by .none) 0

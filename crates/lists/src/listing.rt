@@ -16,7 +16,8 @@ ghost use lib.Ieee.{binary64, inUnsigned};
 ghost use lib.ListN.{length};
 ghost use Rattle.text.specs.Text.{Wrote};
 ghost use Rattle.steps.specs.Steps.{stepAt};
-ghost use Rattle.lists.specs.Listing.{asDoubles, lastText, printed, offsetIn, textOf, isLast, placeAfter, totalAfter};
+ghost use Rattle.lists.specs.Listing.{asDoubles, lastText, printed};
+ghost use Rattle.lists.specs.Turns.{offsetIn, textOf, isLast, placeAfter, totalAfter};
 
 // What a step leaves: how many bytes it printed, whether they are the last, the place after it, and the total up to there.
 struct Turn {

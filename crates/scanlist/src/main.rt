@@ -3,8 +3,9 @@
 // All of a list that can make a difference to what is printed fits the buffer: ten thousand moves of 26 bytes, and the field after
 // them, which has 65,538 at most. What comes after it is read and dropped, so that whoever writes the list can write all of it.
 //
-// The file stdin has a list of five steps, on two channels: to a target and by a distance, -0 among them, and two dwells. Its last
-// field is a target of 2.5 in the place of a speed, so that the last line is a refusal.
+// The file stdin has a list of five steps, three moves and two dwells: to a target and by a distance, -0 and the lowest one among
+// them, at the lowest speed and at the highest. In a sixth step a target of 2.5 stands in the place of the speed, so that the last line is
+// a refusal, of the tag and not of the double.
 
 use libc::STDIN_FILENO;
 use libc::STDOUT_FILENO;

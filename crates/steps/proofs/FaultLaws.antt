@@ -1,27 +1,25 @@
 -- 02 §8: "the first fault in the list counts, and in one field the lower number". A list that is refused at a step is refused by the
 -- first of its fields that has a fault, with that field's own number and offset. Assumes nothing.
-use mathlib.Core.Path.{_≡_, refl, sym, ap, _∙_}
+use mathlib.Core.Path.{_≡_, refl, ap, _∙_}
 use mathlib.Core.List.{List, [], _∷_}
 use mathlib.Core.Bool.{Bool, true, false, cond}
-use Prim.Native.Nat.{ℕ, _+_, _≤_}
+use Prim.Native.Nat.{ℕ, _+_}
 use native.Mathlib.Omega.{arith}
 use lib.Dec.{leb, eqb}
-use lib.Ieee.{Float}
 use borrow.Author.Tests.{ne-eqb}
 use Rattle.steps.specs.declared.SetPoint.{SetPoint}
 use Rattle.steps.specs.declared.SetPoint.the-variants.{Dwell}
 use Rattle.steps.specs.declared.Judged.{Judged}
 use Rattle.steps.specs.declared.Judged.the-variants.{Number, Unfit}
 use Rattle.steps.specs.declared.Fault.{Fault}
-use Rattle.steps.specs.declared.Rate.{Rate}
 use Rattle.steps.specs.declared.Rate.the-variants.{Speed, NoSpeed}
 use Rattle.steps.specs.declared.Aim.the-variants.{Point, NoPoint}
-use Rattle.steps.specs.declared.Opening.the-variants.{Channel, Good, Bad}
+use Rattle.steps.specs.declared.Opening.the-variants.{Channel, Bad}
 use Rattle.steps.specs.Numbers.{wrongChannel}
-use Rattle.steps.specs.Fields.{tagAt, valueAt, ended, frameFault, doubleAt}
+use Rattle.steps.specs.Fields.{tagAt, channelAt, ended, frameFault, doubleAt}
 use Rattle.steps.specs.Judging.{judgedPoint, judgedSpeed}
 use Rattle.steps.specs.Steps.{faultAt, channelOf, dwellOf, openingAt, aimOf, aimAt, rateAt, isDistance, sped, ratedBy, aimedBy, pointedBy, moveAt, openedBy, stepAt}
-use Rattle.steps.specs.Faults.{unfit, lower, openingNumber, aimNumber, rateNumber, faultsOf, firstFault, faultIn}
+use Rattle.steps.specs.Faults.{unfit, openingNumber, aimNumber, rateNumber, faultsOf, firstFault, faultIn}
 use Rattle.steps.proofs.MadeLaws.{Placed, pointed, Counted, counted}
 
 -- a speed's field, where what stands before it is good
@@ -68,10 +66,10 @@ first-fault s at h = rw h (go (eqb (frameFault 1 5 s at) 0) refl (eqb (tagAt s a
     rest : Fault
     rest = firstFault (faultAt (aimNumber s (at + 4)) (at + 4) ∷ faultAt (rateNumber s (at + 15)) (at + 15) ∷ [])
 
-    move : faultIn (moveAt s (at + 4) (valueAt s at)) ≡ rest
-    move = let far : at + 4 + 11 ≡ at + 15 = omega arith in move-fault s (at + 4) (valueAt s at) ∙ ap (λ (o : ℕ). firstFault (faultAt (aimNumber s (at + 4)) (at + 4) ∷ faultAt (rateNumber s o) o ∷ [])) far
+    move : faultIn (moveAt s (at + 4) (channelAt s at)) ≡ rest
+    move = let far : at + 4 + 11 ≡ at + 15 = omega arith in move-fault s (at + 4) (channelAt s at) ∙ ap (λ (o : ℕ). firstFault (faultAt (aimNumber s (at + 4)) (at + 4) ∷ faultAt (rateNumber s o) o ∷ [])) far
 
-    channel : (t : Bool) → faultIn (openedBy s at (cond t (Channel (valueAt s at)) (Bad (faultAt wrongChannel at)))) ≡ cond (eqb (cond t 0 wrongChannel) 0) rest (faultAt (cond t 0 wrongChannel) at)
+    channel : (t : Bool) → faultIn (openedBy s at (cond t (Channel (channelAt s at)) (Bad (faultAt wrongChannel at)))) ≡ cond (eqb (cond t 0 wrongChannel) 0) rest (faultAt (cond t 0 wrongChannel) at)
     channel true = move
     channel false = refl
 
@@ -80,10 +78,10 @@ first-fault s at h = rw h (go (eqb (frameFault 1 5 s at) 0) refl (eqb (tagAt s a
     dwell (Unfit n) k = rw (ne-eqb n 0 (λ e. absurd (omega (arith, k .0))))
 
     go : (t : Bool) → eqb (frameFault 1 5 s at) 0 ≡ t → (u : Bool)
-        → faultIn (openedBy s at (cond t (cond u (channelOf (valueAt s at) at) (dwellOf (doubleAt s at) (judgedPoint (Dwell (doubleAt s at))) at)) (Bad (faultAt (frameFault 1 5 s at) at))))
-        ≡ cond (eqb (cond t (cond u (cond (leb (valueAt s at) 15) 0 wrongChannel) (unfit (judgedPoint (Dwell (doubleAt s at))))) (frameFault 1 5 s at)) 0)
+        → faultIn (openedBy s at (cond t (cond u (channelOf (channelAt s at) at) (dwellOf (doubleAt s at) (judgedPoint (Dwell (doubleAt s at))) at)) (Bad (faultAt (frameFault 1 5 s at) at))))
+        ≡ cond (eqb (cond t (cond u (cond (leb (channelAt s at) 15) 0 wrongChannel) (unfit (judgedPoint (Dwell (doubleAt s at))))) (frameFault 1 5 s at)) 0)
         (firstFault (cond u (faultAt (aimNumber s (at + 4)) (at + 4) ∷ faultAt (rateNumber s (at + 15)) (at + 15) ∷ []) []))
-        (faultAt (cond t (cond u (cond (leb (valueAt s at) 15) 0 wrongChannel) (unfit (judgedPoint (Dwell (doubleAt s at))))) (frameFault 1 5 s at)) at)
-    go true e true = channel (leb (valueAt s at) 15)
+        (faultAt (cond t (cond u (cond (leb (channelAt s at) 15) 0 wrongChannel) (unfit (judgedPoint (Dwell (doubleAt s at))))) (frameFault 1 5 s at)) at)
+    go true e true = channel (leb (channelAt s at) 15)
     go true e false = dwell (judgedPoint (Dwell (doubleAt s at))) (unfold judgedPoint in counted 10000 (doubleAt s at))
     go false e u = rw e

@@ -5,11 +5,12 @@ use Prim.Native.Nat.{ℕ, _≤_, _<_, min}
 use native.Mathlib.Omega.{arith}
 use lib.Dec.{leb}
 use lib.Ieee.{Float}
-use borrow.Author.Tests.{leb-true, leb-false, le-leb, lt-leb}
+use borrow.Author.Tests.{leb-true, leb-false, lt-leb}
 use Rattle.digits.specs.Places.{origin, cw, ccw, moved}
 use Rattle.doubles.specs.declared.Measure.{Measure}
 use Rattle.doubles.specs.declared.Measure.the-variants.{Whole, Broken}
-use Rattle.doubles.specs.Doubles.{isWhole, sizeOf, isMinus, largest, measureOf}
+use Rattle.doubles.specs.Doubles.{isWhole, sizeOf, isMinus}
+use Rattle.doubles.specs.Measures.{largest, measureOf}
 use Rattle.steps.specs.declared.Judged.{Judged}
 use Rattle.steps.specs.declared.Judged.the-variants.{Number, Unfit}
 use Rattle.steps.specs.Numbers.{notWhole, outOfRange}

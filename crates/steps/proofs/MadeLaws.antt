@@ -7,7 +7,6 @@ use mathlib.Core.Logic.{_⊎_, inl, inr}
 use Prim.Native.Nat.{ℕ, _+_, _-_, _≤_, _<_}
 use native.Mathlib.Omega.{arith}
 use lib.Dec.{leb, eqb}
-use lib.ListN.{length}
 use lib.Ieee.{Float}
 use borrow.Author.Tests.{leb-true}
 use Rattle.digits.specs.Places.{origin, cw, ccw, moved}
@@ -22,13 +21,13 @@ use Rattle.steps.specs.declared.Aim.the-variants.{Point, NoPoint}
 use Rattle.steps.specs.declared.Rate.{Rate}
 use Rattle.steps.specs.declared.Rate.the-variants.{Speed, NoSpeed}
 use Rattle.steps.specs.declared.Opening.{Opening}
-use Rattle.steps.specs.declared.Opening.the-variants.{Channel, Good, Bad}
+use Rattle.steps.specs.declared.Opening.the-variants.{Channel, Dwelling, Bad}
 use Rattle.steps.specs.declared.Ending.{Ending}
 use Rattle.steps.specs.declared.Ending.the-variants.{Complete, Refused}
 use Rattle.steps.specs.declared.Step.{Step}
 use Rattle.steps.specs.declared.Step.the-variants.{Last, Drive, Wait}
 use Rattle.steps.specs.Numbers.{cutShort, tagOrOrder, wrongLength, wrongChannel, notWhole, outOfRange}
-use Rattle.steps.specs.Fields.{tagAt, lengthAt, valueAt, ended, isCut, valueSize, frameFault, doubleAt}
+use Rattle.steps.specs.Fields.{tagAt, lengthAt, channelAt, ended, isCut, valueSize, frameFault, doubleAt}
 use Rattle.steps.specs.Judging.{judgedAs, judgedPlace, judgedNumber, judgedPoint, judgedSpeed}
 use Rattle.steps.specs.Steps.{faultAt, channelOf, dwellOf, openingAt, aimOf, aimAt, rateAt, isDistance, sped, ratedBy, aimedBy, pointedBy, moveAt, openedBy, stepAt, excess, beyondAt}
 
@@ -139,7 +138,7 @@ framed a b s at e = go (ended s at) (isCut s at) (eqb (tagAt s at) a || eqb (tag
 
 abbrev Opened : ℕ → Opening → Type 0
 Opened at (Channel c) = c < 16
-Opened at (Good x n) = Dwelt x n
+Opened at (Dwelling x n) = Dwelt x n
 Opened at (Bad f) = FaultAt at f
 
 opened : (s : List ℕ) (at : ℕ) → Opened at (openingAt s at)
@@ -155,8 +154,8 @@ opened s at = go (eqb (frameFault 1 5 s at) 0) refl (eqb (tagAt s at) 1)
     dwell x (Unfit k) h = (omega (arith, h .0), omega (arith, h .1), refl)
 
     go : (t : Bool) → eqb (frameFault 1 5 s at) 0 ≡ t → (u : Bool)
-        → Opened at (cond t (cond u (channelOf (valueAt s at) at) (dwellOf (doubleAt s at) (judgedPoint (Dwell (doubleAt s at))) at)) (Bad (faultAt (frameFault 1 5 s at) at)))
-    go true e true = channel (leb (valueAt s at) 15) (valueAt s at) refl
+        → Opened at (cond t (cond u (channelOf (channelAt s at) at) (dwellOf (doubleAt s at) (judgedPoint (Dwell (doubleAt s at))) at)) (Bad (faultAt (frameFault 1 5 s at) at)))
+    go true e true = channel (leb (channelAt s at) 15) (channelAt s at) refl
     go true e false = dwell (doubleAt s at) (judgedPoint (Dwell (doubleAt s at))) (unfold judgedPoint in counted 10000 (doubleAt s at))
     go false e u = framed 1 5 s at e
 
@@ -212,7 +211,7 @@ step-made s at = go (ended s at)
   where
     by : (o : Opening) → Opened at o → Made at (openedBy s at o)
     by (Channel c) h = moved-so s at c h
-    by (Good x n) h = h
+    by (Dwelling x n) h = h
     by (Bad f) h = (h .0, h .1, inl (h .2))
 
     go : (t : Bool) → Made at (cond t (Last Complete) (openedBy s at (openingAt s at)))
@@ -225,7 +224,7 @@ beyond-made s at = go (ended s at)
   where
     by : (o : Opening) → Opened at o → Ended at (excess at o)
     by (Channel c) h = (omega arith, omega arith, inl refl)
-    by (Good x n) h = (omega arith, omega arith, inl refl)
+    by (Dwelling x n) h = (omega arith, omega arith, inl refl)
     by (Bad f) h = (h .0, h .1, inl (h .2))
 
     go : (t : Bool) → Ended at (cond t Complete (excess at (openingAt s at)))

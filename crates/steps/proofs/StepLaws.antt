@@ -17,7 +17,8 @@ use Rattle.steps.specs.declared.Judged.{Judged}
 use Rattle.steps.specs.declared.Judged.the-variants.{Number, Unfit}
 use Rattle.steps.specs.declared.Rate.the-variants.{NoSpeed}
 use Rattle.steps.specs.Fields.{tagAt, frameFault, doubleAt}
-use Rattle.steps.specs.Steps.{faultAt, aimOf, aimAt, isDistance, doubleIn, aimedBy}
+use Rattle.steps.specs.Steps.{faultAt, aimOf, aimAt, isDistance, aimedBy}
+use Rattle.steps.specs.Parts.{doubleIn, unrated}
 use Rattle.steps.proofs.FieldLaws.{framed-other}
 
 abbrev pointIn : Aim → SetPoint
@@ -41,7 +42,7 @@ aim-there s at p e = go (eqb (frameFault 2 3 s at) 0) refl e
         (framed-other 2 3 s at (omega arith) (omega arith) (eqb-true (frameFault 2 3 s at) 0 z), rw same (remade (eqb (tagAt s at) 3) (doubleAt s at)))
     go false z h = let no : _≡_ {A = ℕ} 0 1 = cc in absurd (omega arith)
 
--- where a speed's field is refused, neither the channel nor the kind of the move makes a difference
-pub alone : (c : ℕ) (relative : Bool) (at : ℕ) (f : Fault) (j : Judged) → aimedBy 0 false at (NoSpeed f) j ≡ aimedBy c relative at (NoSpeed f) j
+-- a target is judged before a speed's field that is refused, whatever the channel and the kind of the move
+pub alone : (c : ℕ) (relative : Bool) (at : ℕ) (f : Fault) (j : Judged) → unrated at f j ≡ aimedBy c relative at (NoSpeed f) j
 alone c relative at f (Number n) = refl
 alone c relative at f (Unfit k) = refl

@@ -2,10 +2,10 @@
 -- shut. It says nothing itself.
 use Rattle.digits.specs.Computing.{computing-digits}
 use Rattle.doubles.specs.Computing.{computing-doubles}
-use Rattle.steps.specs.Fields.{tagAt, lengthAt, valueAt, isCut, frameFault, doubleAt}
+use Rattle.steps.specs.Fields.{tagAt, lengthAt, channelAt, isCut, frameFault, doubleAt}
 use Rattle.steps.specs.Judging.{judgedPlace, judgedNumber, judgedPoint, judgedSpeed}
 use Rattle.steps.specs.Steps.{openingAt, aimAt, rateAt, moveAt, stepAt, beyondAt}
 
 unfoldable pub computing-steps : Unit {0}
-unfolding computing-digits computing-doubles tagAt lengthAt valueAt isCut frameFault doubleAt judgedPlace judgedNumber judgedPoint judgedSpeed openingAt aimAt rateAt moveAt stepAt beyondAt
+unfolding computing-digits computing-doubles tagAt lengthAt channelAt isCut frameFault doubleAt judgedPlace judgedNumber judgedPoint judgedSpeed openingAt aimAt rateAt moveAt stepAt beyondAt
 computing-steps = tt

@@ -8,12 +8,11 @@ use Rattle.steps.specs.declared.SetPoint.the-variants.{Dwell}
 use Rattle.steps.specs.declared.Judged.{Judged}
 use Rattle.steps.specs.declared.Judged.the-variants.{Number, Unfit}
 use Rattle.steps.specs.declared.Fault.{Fault}
-use Rattle.steps.specs.declared.Ending.{Ending}
 use Rattle.steps.specs.declared.Ending.the-variants.{Complete, Refused}
 use Rattle.steps.specs.declared.Step.{Step}
 use Rattle.steps.specs.declared.Step.the-variants.{Last, Drive, Wait}
 use Rattle.steps.specs.Numbers.{wrongChannel}
-use Rattle.steps.specs.Fields.{tagAt, valueAt, frameFault, doubleAt}
+use Rattle.steps.specs.Fields.{tagAt, channelAt, frameFault, doubleAt}
 use Rattle.steps.specs.Judging.{judgedPoint, judgedSpeed}
 use Rattle.steps.specs.Steps.{faultAt, aimOf}
 
@@ -29,7 +28,7 @@ lower frame value = cond (eqb frame 0) value frame
 -- the field of a channel or a dwell
 unfoldable pub openingNumber : List ℕ → ℕ → ℕ
 openingNumber s at =
-    lower (frameFault 1 5 s at) (cond (eqb (tagAt s at) 1) (cond (leb (valueAt s at) 15) 0 wrongChannel) (unfit (judgedPoint (Dwell (doubleAt s at)))))
+    lower (frameFault 1 5 s at) (cond (eqb (tagAt s at) 1) (cond (leb (channelAt s at) 15) 0 wrongChannel) (unfit (judgedPoint (Dwell (doubleAt s at)))))
 
 -- the field of a target or a distance
 unfoldable pub aimNumber : List ℕ → ℕ → ℕ

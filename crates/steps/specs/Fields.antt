@@ -18,8 +18,8 @@ unfoldable pub lengthAt : List ℕ → ℕ → ℕ
 lengthAt s at = word (part s (at + 1) 2)
 
 -- "tag 1 channel (one byte)": that of the field at a place
-unfoldable pub valueAt : List ℕ → ℕ → ℕ
-valueAt s at = word (part s (at + 3) 1)
+unfoldable pub channelAt : List ℕ → ℕ → ℕ
+channelAt s at = word (part s (at + 3) 1)
 
 -- the list ends at a place
 abbrev pub ended : List ℕ → ℕ → Bool

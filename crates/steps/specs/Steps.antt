@@ -6,7 +6,6 @@ use lib.Dec.{leb, eqb}
 use lib.Ieee.{Float}
 use Rattle.steps.specs.declared.SetPoint.{SetPoint}
 use Rattle.steps.specs.declared.SetPoint.the-variants.{Target, Distance, Dwell}
-use Rattle.steps.specs.declared.Pair.{Pair}
 use Rattle.steps.specs.declared.Judged.{Judged}
 use Rattle.steps.specs.declared.Judged.the-variants.{Number, Unfit}
 use Rattle.steps.specs.declared.Fault.{Fault}
@@ -15,13 +14,13 @@ use Rattle.steps.specs.declared.Aim.the-variants.{Point, NoPoint}
 use Rattle.steps.specs.declared.Rate.{Rate}
 use Rattle.steps.specs.declared.Rate.the-variants.{Speed, NoSpeed}
 use Rattle.steps.specs.declared.Opening.{Opening}
-use Rattle.steps.specs.declared.Opening.the-variants.{Channel, Good, Bad}
+use Rattle.steps.specs.declared.Opening.the-variants.{Channel, Dwelling, Bad}
 use Rattle.steps.specs.declared.Ending.{Ending}
 use Rattle.steps.specs.declared.Ending.the-variants.{Complete, Refused}
 use Rattle.steps.specs.declared.Step.{Step}
 use Rattle.steps.specs.declared.Step.the-variants.{Last, Drive, Wait}
 use Rattle.steps.specs.Numbers.{wrongChannel, tooMany}
-use Rattle.steps.specs.Fields.{tagAt, valueAt, ended, frameFault, doubleAt}
+use Rattle.steps.specs.Fields.{tagAt, channelAt, ended, frameFault, doubleAt}
 use Rattle.steps.specs.Judging.{judgedPoint, judgedSpeed}
 
 -- "Refusals, each with its field's byte offset"
@@ -36,14 +35,14 @@ channelOf b at = cond (leb b 15) (Channel b) (Bad (faultAt wrongChannel at))
 
 -- a dwell, judged
 abbrev pub dwellOf : Float → Judged → ℕ → Opening
-dwellOf x (Number n) at = Good x n
+dwellOf x (Number n) at = Dwelling x n
 dwellOf x (Unfit k) at = Bad (faultAt k at)
 
 -- "1 .. or 5": the first field of a step, with all that may be wrong in it
 unfoldable pub openingAt : List ℕ → ℕ → Opening
 openingAt s at =
     cond (eqb (frameFault 1 5 s at) 0)
-    (cond (eqb (tagAt s at) 1) (channelOf (valueAt s at) at) (dwellOf (doubleAt s at) (judgedPoint (Dwell (doubleAt s at))) at))
+    (cond (eqb (tagAt s at) 1) (channelOf (channelAt s at) at) (dwellOf (doubleAt s at) (judgedPoint (Dwell (doubleAt s at))) at))
     (Bad (faultAt (frameFault 1 5 s at) at))
 
 -- "2 absolute target, 3 distance"
@@ -73,21 +72,6 @@ isDistance (Target x) = false
 isDistance (Distance x) = true
 isDistance (Dwell x) = false
 
--- a set-point's own double
-abbrev pub doubleIn : SetPoint → Float
-doubleIn (Target x) = x
-doubleIn (Distance x) = x
-doubleIn (Dwell x) = x
-
--- what refuses a field; one that is good has number 0 at 0 for it
-abbrev pub aimFault : Aim → Fault
-aimFault (Point p) = faultAt 0 0
-aimFault (NoPoint f) = f
-
-abbrev pub rateFault : Rate → Fault
-rateFault (Speed x) = faultAt 0 0
-rateFault (NoSpeed f) = f
-
 -- a speed that is judged; its field stands at a place
 abbrev pub sped : ℕ → Bool → ℕ → ℕ → Judged → Step
 sped c relative p at (Number v) = Drive (record { channel = c; relative = relative; place = p; speed = v })
@@ -114,9 +98,10 @@ moveAt s at c = pointedBy c at (rateAt s (at + 11)) (aimAt s at)
 
 -- ---- a step
 
+-- what the first field begins
 abbrev pub openedBy : List ℕ → ℕ → Opening → Step
 openedBy s at (Channel c) = moveAt s (at + 4) c
-openedBy s at (Good x n) = Wait x n
+openedBy s at (Dwelling x n) = Wait x n
 openedBy s at (Bad f) = refusing f
 
 -- the step at a place, where the list may end
@@ -126,8 +111,9 @@ stepAt s at = cond (ended s at) (Last Complete) (openedBy s at (openingAt s at))
 -- "26 a step after the 10,000th", "in one field the lower number": what stands at a place where no more step may
 abbrev pub excess : ℕ → Opening → Ending
 excess at (Channel c) = Refused (faultAt tooMany at)
-excess at (Good x n) = Refused (faultAt tooMany at)
+excess at (Dwelling x n) = Refused (faultAt tooMany at)
 excess at (Bad f) = Refused f
 
+-- the same of a list and a place, where the list may end
 unfoldable pub beyondAt : List ℕ → ℕ → Ending
 beyondAt s at = cond (ended s at) Complete (excess at (openingAt s at))

@@ -57,10 +57,10 @@ pub enum Rate {
     NoSpeed(Fault),
 }
 
-// The first field of a step: a channel, or a dwell that is good, with its double and its number.
+// The first field of a step: a channel, or a dwell with its double and its number, or what refuses it.
 pub enum Opening {
     Channel(u8),
-    Good(f64, u32),
+    Dwelling(f64, u32),
     Bad(Fault),
 }
 

@@ -18,13 +18,13 @@ use crate::judging::judge_point;
 use crate::judging::judge_speed;
 use digits::words::byte_at;
 ghost use mathlib.Core.Path.{_≡_};
-ghost use mathlib.Core.Bool.{false};
 ghost use Prim.Native.Nat.{_+_, _<_};
 ghost use Rattle.steps.specs.declared.SetPoint.the-variants.{Dwell};
-ghost use Rattle.steps.specs.declared.Rate.the-variants.{Speed, NoSpeed};
+ghost use Rattle.steps.specs.declared.Rate.the-variants.{Speed};
 ghost use Rattle.steps.specs.Judging.{judgedPoint, judgedSpeed};
-ghost use Rattle.steps.specs.Steps.{refusing, channelOf, dwellOf, openingAt, aimOf, aimAt, rateAt, aimFault, rateFault};
-ghost use Rattle.steps.specs.Steps.{isDistance, doubleIn, sped, aimedBy, moveAt, stepAt, beyondAt};
+ghost use Rattle.steps.specs.Steps.{refusing, channelOf, dwellOf, openingAt, aimOf, aimAt, rateAt};
+ghost use Rattle.steps.specs.Parts.{doubleIn, aimFault, rateFault, unrated};
+ghost use Rattle.steps.specs.Steps.{isDistance, sped, aimedBy, moveAt, stepAt, beyondAt};
 
 // A list that ends with a fault.
 fn refused(f: Fault) -> Step
@@ -52,7 +52,7 @@ fn dwell_of(x: f64, at: usize) -> Opening
     ensures { λ r. ⌜ r ≡ dwellOf x (judgedPoint (Dwell x)) at ⌝ }
 {
     match judge_point(SetPoint::Dwell(x)) {
-        Judged::Number(n) => Opening::Good(x, n),
+        Judged::Number(n) => Opening::Dwelling(x, n),
         Judged::Unfit(k) => Opening::Bad(Fault {
             number: k,
             offset: at,
@@ -169,7 +169,7 @@ fn double_in(p: SetPoint) -> f64
 
 // A target whose speed's field is refused. "the first fault in the list counts": its own fault comes before.
 fn judge_alone(p: SetPoint, at: usize, fault: Fault) -> Step
-    ensures { λ r. ⌜ r ≡ aimedBy 0 false at (NoSpeed fault) (judgedPoint p) ⌝ }
+    ensures { λ r. ⌜ r ≡ unrated at fault (judgedPoint p) ⌝ }
 {
     match judge_point(p) {
         Judged::Number(_) => refused(fault),
@@ -240,7 +240,7 @@ pub fn step_at(list: &[u8], at: usize) -> Step
     }
     match opening_at(list, at) {
         Opening::Channel(c) => move_at(list, at + 4, c),
-        Opening::Good(x, n) => Step::Wait(x, n),
+        Opening::Dwelling(x, n) => Step::Wait(x, n),
         Opening::Bad(f) => refused(f),
     }
 }
@@ -258,7 +258,7 @@ pub fn beyond_at(list: &[u8], at: usize) -> Ending
     };
     match opening_at(list, at) {
         Opening::Channel(_) => Ending::Refused(too_many),
-        Opening::Good(_, _) => Ending::Refused(too_many),
+        Opening::Dwelling(_, _) => Ending::Refused(too_many),
         Opening::Bad(f) => Ending::Refused(f),
     }
 }

@@ -1,17 +1,15 @@
 -- What is written in digits, as a reader finds it: a hex digit, how many digits a number has, and its first two. Assumes nothing.
 use Prim.Native.Char.{code}
-use mathlib.Core.Path.{_≡_, refl, sym, _∙_}
-use mathlib.Core.List.{List, [], _∷_, _++_}
-use mathlib.Core.Bool.{Bool, true, false, _&&_, _||_, cond}
-use Prim.Native.Nat.{ℕ, zero, suc, _+_, _*_, _-_, _/_, _%_, _^_, _<_, _≤_, max}
-use native.Mathlib.Nat.{add-zero, pow-zero, div-lt-iff-lt-mul, le-div-iff-mul-le, mod-eq-of-lt, one-mul, pow-suc, pow-succ', pow-le-pow-right, lt-of-lt-of-le}
+use mathlib.Core.Path.{_≡_, refl}
+use mathlib.Core.Bool.{Bool, true, false, cond}
+use Prim.Native.Nat.{ℕ, zero, suc, _+_, _-_, _/_, _^_, _<_, _≤_, max}
+use native.Mathlib.Nat.{add-zero, pow-zero, div-lt-iff-lt-mul, le-div-iff-mul-le, mod-eq-of-lt, one-mul, pow-succ', pow-le-pow-right, lt-of-lt-of-le}
 use native.Mathlib.Numerals.{add-one}
 use native.Mathlib.Omega.{arith}
-use lib.Dec.{leb, ltb, eqb}
-use lib.Pow.{pow-pos}
+use lib.Dec.{leb, ltb}
 use lib.ListN.{length, getD}
-use borrow.Author.Tests.{leb-true, leb-false, le-leb, lt-leb, lt-ltb, le-ltb, ltb-true, ltb-false}
-use Rattle.text.specs.Text.{isDigit, isHex, hexValue, hexDigit, digitValue, digitByte, lastDigits, powersUpTo, digitCount, decimal}
+use borrow.Author.Tests.{leb-true, le-leb, lt-leb, ltb-true, ltb-false}
+use Rattle.text.specs.Text.{isDigit, isHex, hexValue, hexDigit, digitByte, powersUpTo, digitCount, decimal}
 use Rattle.text.proofs.TextLaws.{last-digits-more, last-digits-are, length-decimal, powers-within, powers-end, powers-all, power-below, count-enough}
 
 -- The hex digit of a number below 16 is one, and stands for it.

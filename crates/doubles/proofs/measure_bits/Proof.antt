@@ -1,5 +1,5 @@
 -- `doubles::measure_bits` meets its contract. Assumes nothing.
-use mathlib.Core.Path.{_≡_, sym, _∙_}
+use mathlib.Core.Path.{sym, _∙_}
 use native.Mathlib.Omega.{arith}
 use borrow.Author.Needs.{needs}
 use Rattle.doubles.proofs.DoubleLaws.{field-top, field-large, field-mixed, field-zero, field-small}

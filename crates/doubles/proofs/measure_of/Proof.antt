@@ -1,14 +1,15 @@
 -- `doubles::measure_of` meets its contract. Assumes nothing.
 use mathlib.Core.Path.{_≡_, refl, sym, ap, _∙_, subst}
-use mathlib.Core.Bool.{Bool, true, false, not, _&&_, Bool·beq}
-use Prim.Native.Nat.{ℕ, _*_}
-use lib.Dec.{T, eqb, eqb-refl}
-use lib.Ieee.{Float, nan, inf, fin, binary64, up, down, eq, ne, isNan, toBits}
+use mathlib.Core.Bool.{Bool, true, false, not, Bool·beq}
+use Prim.Native.Nat.{_*_}
+use lib.Dec.{T}
+use lib.Ieee.{Float, nan, inf, fin, binary64, up, down, eq, ne, isNan}
 use lib.Ieee.Bits.{ofBits-toBits}
 use borrow.Author.Tests.{eq-eqb}
 use borrow.Author.Needs.{needs}
 use Rattle.doubles.specs.declared.Measure.the-variants.{Broken}
-use Rattle.doubles.specs.Doubles.{isWhole, measureOf}
+use Rattle.doubles.specs.Doubles.{isWhole}
+use Rattle.doubles.specs.Measures.{measureOf}
 use Rattle.doubles.proofs.measure_of.Statement.{statement}
 use Rattle.doubles.proofs.measure_of.Tie as tie
 

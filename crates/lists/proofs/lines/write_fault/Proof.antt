@@ -1,12 +1,11 @@
 -- `lists::lines::write_fault` meets its contract. Assumes nothing.
-use mathlib.Core.Path.{_≡_, refl, sym, _∙_}
 use mathlib.Core.List.{[], _∷_, _++_}
 use native.Mathlib.Omega.{arith}
 use denote.Ref.{now}
-use lib.ListN.{length, length-take, length-drop}
+use lib.ListN.{length-take, length-drop}
 use Prim.Native.Char.{code}
 use Rattle.lists.proofs.OutLaws.{wrote-more, then-within, total-within, fault-parts}
-use Rattle.lists.specs.Lines.{totalText, faultText}
+use Rattle.lists.specs.Lines.{totalText}
 use Rattle.jobs.specs.Texts.{plainText}
 use Rattle.text.specs.Text.{bytes}
 use borrow.Author.Needs.{needs}

@@ -1,5 +1,5 @@
 -- `lists::lines::write_going` meets its contract. Assumes nothing.
-use mathlib.Core.Path.{_≡_, refl, sym, _∙_}
+use mathlib.Core.Path.{_≡_}
 use native.Mathlib.Omega.{arith}
 use Prim.Native.Nat.{_%_}
 use Rattle.text.specs.Text.{bytes, hexDigit, signedDecimal}

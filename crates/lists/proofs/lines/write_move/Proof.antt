@@ -1,9 +1,8 @@
 -- `lists::lines::write_move` meets its contract. Assumes nothing.
-use mathlib.Core.Path.{_≡_, refl, sym, _∙_}
-use mathlib.Core.List.{[], _∷_, _++_}
+use mathlib.Core.List.{_++_}
 use native.Mathlib.Omega.{arith}
 use denote.Ref.{now}
-use lib.ListN.{length, length-take, length-drop}
+use lib.ListN.{length-take, length-drop}
 use Rattle.lists.proofs.OutLaws.{wrote-more, speed-within, going-within}
 use Rattle.lists.specs.Lines.{settingText, selectText, goingText, moveText}
 use borrow.Author.Needs.{needs}

@@ -1,9 +1,6 @@
 -- `lists::lines::write_numbered` meets its contract. Assumes nothing.
-use mathlib.Core.Path.{_≡_, refl, sym, _∙_}
-use mathlib.Core.List.{[], _∷_, _++_}
 use native.Mathlib.Omega.{arith}
 use denote.Ref.{now}
-use lib.ListN.{length, length-take, length-drop}
 use Rattle.lists.proofs.OutLaws.{wrote-more, total-within}
 use Rattle.lists.specs.Lines.{totalText}
 use Rattle.text.specs.Text.{bytes}

@@ -1,9 +1,7 @@
 -- `lists::lines::write_speed` meets its contract. Assumes nothing.
-use mathlib.Core.Path.{_≡_, refl, sym, _∙_}
-use mathlib.Core.List.{[], _∷_, _++_}
 use native.Mathlib.Omega.{arith}
 use denote.Ref.{now}
-use lib.ListN.{length, length-take, length-drop}
+use lib.ListN.{length-take, length-drop}
 use Rattle.lists.proofs.OutLaws.{wrote-more, setting-within, select-within}
 use Rattle.lists.specs.Lines.{settingText, selectText}
 use borrow.Author.Needs.{needs}

@@ -1,8 +1,7 @@
 -- `lists::lines::write_then` meets its contract. Assumes nothing.
-use mathlib.Core.Path.{_≡_, refl, sym, _∙_}
 use native.Mathlib.Omega.{arith}
 use denote.Ref.{now}
-use lib.ListN.{length, length-append}
+use lib.ListN.{length-append}
 use Rattle.text.proofs.TextLaws.{decimal-within}
 use Rattle.jobs.specs.Texts.{plainText}
 use Rattle.jobs.proofs.OutLaws.{text-byte}

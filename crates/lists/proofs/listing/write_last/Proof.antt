@@ -1,5 +1,4 @@
 -- `lists::listing::write_last` meets its contract. Assumes nothing.
-use mathlib.Core.Path.{_≡_, refl, sym, _∙_}
 use native.Mathlib.Omega.{arith}
 use borrow.Author.Needs.{needs}
 use Rattle.lists.proofs.listing.write_last.Statement.{statement}

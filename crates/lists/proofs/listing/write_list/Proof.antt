@@ -2,7 +2,7 @@
 use borrow.Rule.Slice.PartMut.{same-len-mid}
 use Rattle.text.specs.Text.{bytes}
 use borrow.Author.Needs.{needs}
-use mathlib.Core.Path.{_≡_, refl, sym, _∙_}
+use mathlib.Core.Path.{sym, _∙_}
 use native.Mathlib.Omega.{arith}
 use denote.Ref.{now}
 use Prim.Native.Nat.{_-_}

@@ -1,10 +1,9 @@
 -- `steps::frames::frame_fault` meets its contract. Assumes nothing.
-use mathlib.Core.Path.{_≡_, refl, sym, ap, _∙_}
+use mathlib.Core.Path.{sym, _∙_}
 use native.Mathlib.Omega.{arith}
-use borrow.Author.Tests.{eq-eqb, ne-eqb, le-leb, lt-leb, lt-ltb, le-ltb}
+use borrow.Author.Tests.{eq-eqb, ne-eqb, le-leb, lt-leb}
 use denote.Ref.{now}
-use lib.ListN.{length}
-use Rattle.steps.specs.Fields.{isCut, lengthAt, tagAt, frameFault}
+use Rattle.steps.specs.Fields.{lengthAt, tagAt, frameFault}
 use Rattle.steps.proofs.FieldLaws.{uncut}
 use borrow.Author.Needs.{needs}
 use Rattle.steps.proofs.frames.frame_fault.Statement.{statement}

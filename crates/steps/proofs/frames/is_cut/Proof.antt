@@ -1,11 +1,10 @@
 -- `steps::frames::is_cut` meets its contract. Assumes nothing.
 use denote.Ref.{now}
-use Prim.Native.Nat.{_+_, _≤_, _<_}
+use Prim.Native.Nat.{_+_}
 use lib.ListN.{length}
 use Rattle.steps.proofs.FieldLaws.{cut-asked}
-use mathlib.Core.Path.{_≡_, refl, sym, ap, _∙_}
 use native.Mathlib.Omega.{arith}
-use borrow.Author.Tests.{eq-eqb, ne-eqb, le-leb, lt-leb, lt-ltb, le-ltb}
+use borrow.Author.Tests.{lt-ltb}
 use Rattle.steps.specs.Fields.{isCut, lengthAt}
 use borrow.Author.Needs.{needs}
 use Rattle.steps.proofs.frames.is_cut.Statement.{statement}

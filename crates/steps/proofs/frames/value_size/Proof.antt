@@ -1,5 +1,5 @@
 -- `steps::frames::value_size` meets its contract. Assumes nothing.
-use borrow.Author.Tests.{eq-eqb, ne-eqb, le-leb, lt-leb, lt-ltb, le-ltb}
+use borrow.Author.Tests.{eq-eqb, ne-eqb}
 use Rattle.steps.proofs.frames.value_size.Statement.{statement}
 use Rattle.steps.proofs.frames.value_size.Tie as tie
 

@@ -1,9 +1,7 @@
 -- `steps::judging::judge_number` meets its contract. Assumes nothing.
-use mathlib.Core.Path.{_≡_, refl, sym, ap, _∙_}
 use native.Mathlib.Omega.{arith}
 use mathlib.Core.Bool.{_&&_, not}
 use lib.Dec.{leb}
-use borrow.Author.Tests.{eq-eqb, ne-eqb, le-leb, lt-leb, lt-ltb, le-ltb}
 use Rattle.steps.proofs.JudgeLaws.{numbered, in-range}
 use borrow.Author.Needs.{needs}
 use Rattle.steps.proofs.judging.judge_number.Statement.{statement}

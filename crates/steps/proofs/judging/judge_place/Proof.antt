@@ -1,6 +1,5 @@
 -- `steps::judging::judge_place` meets its contract. Assumes nothing.
-use mathlib.Core.Path.{_≡_, refl, sym, ap, _∙_}
-use borrow.Author.Tests.{eq-eqb, ne-eqb, le-leb, lt-leb, lt-ltb, le-ltb}
+use borrow.Author.Tests.{le-leb, lt-leb}
 use Rattle.steps.proofs.JudgeLaws.{placed}
 use borrow.Author.Needs.{needs}
 use Rattle.steps.proofs.judging.judge_place.Statement.{statement}

@@ -1,5 +1,5 @@
 -- `steps::judging::judge_point` meets its contract. Assumes nothing.
-use Rattle.steps.specs.Judging.{judgedPoint, judgedSpeed, judgedNumber}
+use Rattle.steps.specs.Judging.{judgedPoint}
 use borrow.Author.Needs.{needs}
 use Rattle.steps.proofs.judging.judge_point.Statement.{statement}
 use Rattle.steps.proofs.judging.judge_point.Tie as tie

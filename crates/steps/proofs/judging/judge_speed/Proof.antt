@@ -1,5 +1,5 @@
 -- `steps::judging::judge_speed` meets its contract. Assumes nothing.
-use Rattle.steps.specs.Judging.{judgedPoint, judgedSpeed, judgedNumber}
+use Rattle.steps.specs.Judging.{judgedSpeed}
 use borrow.Author.Needs.{needs}
 use Rattle.steps.proofs.judging.judge_speed.Statement.{statement}
 use Rattle.steps.proofs.judging.judge_speed.Tie as tie

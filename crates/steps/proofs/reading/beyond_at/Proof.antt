@@ -1,8 +1,5 @@
 -- `steps::reading::beyond_at` meets its contract. Assumes nothing.
-use mathlib.Core.Path.{_≡_, refl, sym, ap, _∙_}
-use native.Mathlib.Omega.{arith}
-use borrow.Author.Tests.{eq-eqb, ne-eqb, le-leb, lt-leb, lt-ltb, le-ltb}
-use denote.Ref.{now}
+use borrow.Author.Tests.{le-leb, lt-leb}
 use Rattle.steps.specs.Steps.{beyondAt}
 use borrow.Author.Needs.{needs}
 use Rattle.steps.proofs.reading.beyond_at.Statement.{statement}

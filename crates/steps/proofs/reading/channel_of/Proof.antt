@@ -1,5 +1,5 @@
 -- `steps::reading::channel_of` meets its contract. Assumes nothing.
-use borrow.Author.Tests.{eq-eqb, ne-eqb, le-leb, lt-leb, lt-ltb, le-ltb}
+use borrow.Author.Tests.{le-leb, lt-leb}
 use Rattle.steps.proofs.reading.channel_of.Statement.{statement}
 use Rattle.steps.proofs.reading.channel_of.Tie as tie
 

@@ -1,5 +1,5 @@
 -- `steps::reading::move_at` meets its contract. Assumes nothing.
-use mathlib.Core.Path.{_≡_, refl, sym, ap, _∙_}
+use mathlib.Core.Path.{sym, _∙_}
 use native.Mathlib.Omega.{arith}
 use denote.Ref.{now}
 use Rattle.steps.proofs.StepLaws.{aim-there, alone}

@@ -1,13 +1,13 @@
 -- `steps::reading::opening_at` meets its contract. Assumes nothing.
-use mathlib.Core.Path.{_≡_, refl, sym, ap, _∙_}
+use mathlib.Core.Path.{sym, _∙_}
 use native.Mathlib.Omega.{arith}
-use borrow.Author.Tests.{eq-eqb, ne-eqb, le-leb, lt-leb, lt-ltb, le-ltb}
+use borrow.Author.Tests.{eq-eqb, ne-eqb}
 use denote.Ref.{now}
 use Prim.Native.Nat.{_+_, _≤_}
 use lib.ListN.{length}
 use Rattle.steps.proofs.FieldLaws.{framed-byte, framed-double, framed-some}
-use Rattle.steps.specs.Fields.{tagAt, valueAt}
-use Rattle.steps.specs.Steps.{openingAt, aimAt, rateAt, moveAt, stepAt, beyondAt}
+use Rattle.steps.specs.Fields.{tagAt, channelAt}
+use Rattle.steps.specs.Steps.{openingAt}
 use borrow.Author.Needs.{needs}
 use Rattle.steps.proofs.reading.opening_at.Statement.{statement}
 use Rattle.steps.proofs.reading.opening_at.Tie as tie
@@ -48,7 +48,7 @@ dwell-of-requires : tie.Need-dwell-of-requires
 dwell-of-requires c κs = search needs
 
 returns : tie.Need-returns
-unfolding openingAt tagAt valueAt
+unfolding openingAt tagAt channelAt
 returns c =
     let e = c .before .before in
     let b = e .before in

@@ -1,8 +1,5 @@
 -- `steps::reading::step_at` meets its contract. Assumes nothing.
-use mathlib.Core.Path.{_≡_, refl, sym, ap, _∙_}
-use native.Mathlib.Omega.{arith}
-use borrow.Author.Tests.{eq-eqb, ne-eqb, le-leb, lt-leb, lt-ltb, le-ltb}
-use denote.Ref.{now}
+use borrow.Author.Tests.{le-leb, lt-leb}
 use Rattle.steps.specs.Steps.{stepAt}
 use borrow.Author.Needs.{needs}
 use Rattle.steps.proofs.reading.step_at.Statement.{statement}
