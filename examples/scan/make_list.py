@@ -48,5 +48,7 @@ STEPS = [
     dwell(200),
 ]
 
+if len(sys.argv) != 2:
+    sys.exit('usage: make_list.py FILE')
 with open(sys.argv[1], 'wb') as file:
     file.write(b''.join(STEPS))
