@@ -15,11 +15,11 @@ use Rattle.steps.specs.declared.Fault.{Fault}
 use Rattle.steps.specs.declared.Rate.the-variants.{Speed, NoSpeed}
 use Rattle.steps.specs.declared.Aim.the-variants.{Point, NoPoint}
 use Rattle.steps.specs.declared.Opening.the-variants.{Channel, Bad}
-use Rattle.steps.specs.Numbers.{wrongChannel}
+use Rattle.steps.specs.Numbers.{wrongChannel, tooMany}
 use Rattle.steps.specs.Fields.{tagAt, channelAt, ended, frameFault, doubleAt}
 use Rattle.steps.specs.Judging.{judgedPoint, judgedSpeed}
-use Rattle.steps.specs.Steps.{faultAt, channelOf, dwellOf, openingAt, aimOf, aimAt, rateAt, isDistance, sped, ratedBy, aimedBy, pointedBy, moveAt, openedBy, stepAt}
-use Rattle.steps.specs.Faults.{unfit, openingNumber, aimNumber, rateNumber, faultsOf, firstFault, faultIn}
+use Rattle.steps.specs.Steps.{faultAt, channelOf, dwellOf, openingAt, aimOf, aimAt, rateAt, isDistance, sped, ratedBy, aimedBy, pointedBy, moveAt, openedBy, stepAt, excess, beyondAt}
+use Rattle.steps.specs.Faults.{unfit, lower, openingNumber, aimNumber, rateNumber, faultsOf, firstFault, endingFault, faultIn}
 use Rattle.steps.proofs.MadeLaws.{Placed, pointed, Counted, counted}
 
 -- a speed's field, where what stands before it is good
@@ -82,6 +82,26 @@ first-fault s at h = rw h (go (eqb (frameFault 1 5 s at) 0) refl (eqb (tagAt s a
         ≡ cond (eqb (cond t (cond u (cond (leb (channelAt s at) 15) 0 wrongChannel) (unfit (judgedPoint (Dwell (doubleAt s at))))) (frameFault 1 5 s at)) 0)
         (firstFault (cond u (faultAt (aimNumber s (at + 4)) (at + 4) ∷ faultAt (rateNumber s (at + 15)) (at + 15) ∷ []) []))
         (faultAt (cond t (cond u (cond (leb (channelAt s at) 15) 0 wrongChannel) (unfit (judgedPoint (Dwell (doubleAt s at))))) (frameFault 1 5 s at)) at)
+    go true e true = channel (leb (channelAt s at) 15)
+    go true e false = dwell (judgedPoint (Dwell (doubleAt s at))) (unfold judgedPoint in counted 10000 (doubleAt s at))
+    go false e u = rw e
+
+-- "26 a step after the 10,000th", "in one field the lower number": the field that stands where no more step may
+pub beyond-fault : (s : List ℕ) (at : ℕ) → ended s at ≡ false → endingFault (beyondAt s at) ≡ faultAt (lower (openingNumber s at) tooMany) at
+unfolding beyondAt openingAt openingNumber
+beyond-fault s at h = rw h (go (eqb (frameFault 1 5 s at) 0) refl (eqb (tagAt s at) 1))
+  where
+    channel : (t : Bool) → endingFault (excess at (cond t (Channel (channelAt s at)) (Bad (faultAt wrongChannel at)))) ≡ faultAt (lower (cond t 0 wrongChannel) tooMany) at
+    channel true = refl
+    channel false = refl
+
+    dwell : (j : Judged) → Counted 10000 (doubleAt s at) j → endingFault (excess at (dwellOf (doubleAt s at) j at)) ≡ faultAt (lower (unfit j) tooMany) at
+    dwell (Number n) k = refl
+    dwell (Unfit n) k = rw (ne-eqb n 0 (λ e. absurd (omega (arith, k .0))))
+
+    go : (t : Bool) → eqb (frameFault 1 5 s at) 0 ≡ t → (u : Bool)
+        → endingFault (excess at (cond t (cond u (channelOf (channelAt s at) at) (dwellOf (doubleAt s at) (judgedPoint (Dwell (doubleAt s at))) at)) (Bad (faultAt (frameFault 1 5 s at) at))))
+        ≡ faultAt (lower (cond t (cond u (cond (leb (channelAt s at) 15) 0 wrongChannel) (unfit (judgedPoint (Dwell (doubleAt s at))))) (frameFault 1 5 s at)) tooMany) at
     go true e true = channel (leb (channelAt s at) 15)
     go true e false = dwell (judgedPoint (Dwell (doubleAt s at))) (unfold judgedPoint in counted 10000 (doubleAt s at))
     go false e u = rw e

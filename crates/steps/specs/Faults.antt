@@ -8,6 +8,7 @@ use Rattle.steps.specs.declared.SetPoint.the-variants.{Dwell}
 use Rattle.steps.specs.declared.Judged.{Judged}
 use Rattle.steps.specs.declared.Judged.the-variants.{Number, Unfit}
 use Rattle.steps.specs.declared.Fault.{Fault}
+use Rattle.steps.specs.declared.Ending.{Ending}
 use Rattle.steps.specs.declared.Ending.the-variants.{Complete, Refused}
 use Rattle.steps.specs.declared.Step.{Step}
 use Rattle.steps.specs.declared.Step.the-variants.{Last, Drive, Wait}
@@ -49,9 +50,13 @@ unfoldable pub firstFault : List Fault → Fault
 firstFault [] = faultAt 0 0
 firstFault (f ∷ fs) = cond (eqb (f .number) 0) (firstFault fs) f
 
+-- the fault with which a list ends; number 0 where it is whole
+abbrev pub endingFault : Ending → Fault
+endingFault Complete = faultAt 0 0
+endingFault (Refused f) = f
+
 -- the fault with which a list ends at a step; number 0 where it does not
 abbrev pub faultIn : Step → Fault
-faultIn (Last Complete) = faultAt 0 0
-faultIn (Last (Refused f)) = f
+faultIn (Last e) = endingFault e
 faultIn (Drive m) = faultAt 0 0
 faultIn (Wait x n) = faultAt 0 0
