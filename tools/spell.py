@@ -35,7 +35,7 @@ def odd(name):
 
 
 def snake(name):
-    return re.sub(r'([a-z0-9])([A-Z])', lambda m: m.group(1) + '_' + m.group(2).lower(), name.replace('-', '_'))
+    return re.sub(r'([a-z0-9])([A-Z]+)', lambda m: m.group(1) + '_' + m.group(2).lower(), name.replace('-', '_'))
 
 
 def bare(text):

@@ -7,6 +7,8 @@
 // `STQ?`, which has no form on this card, a line of over 80 bytes and a last line without its line feed stand at the end. The
 // interpreter takes some 50,000 steps for a tick and ends at ten million, so the ticks are few; tests/long.txt has the long waits.
 
+#![tactic(auto)]
+
 ghost use Rattle.std.specs.Prelude.{◌≡◌, ◌≤◌, length};
 ghost use Rattle.jobs.specs.Holding.{held_size};
 
@@ -15,7 +17,7 @@ use script::taking::{take_end, take_run};
 use urqolina::urqolina_fresh;
 
 // What stands between two reads: whether the line is the first one, how many bytes of it are held, and whether there is more to read.
-#[derive(Drop)]
+#[derive(Clone, Copy)]
 struct Turn {
     first: bool,
     held: usize,

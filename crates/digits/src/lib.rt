@@ -1,6 +1,8 @@
 // Numbers of the bench: words of bytes, low byte first; positions as places; sets of channels; and a few choices between numbers
 // that the other crates are written with. What they are is said in specs/.
 
+#![tactic(auto)]
+
 pub mod places;
 pub mod sets;
 pub mod words;

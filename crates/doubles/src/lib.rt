@@ -1,6 +1,8 @@
 // A double as it stands in eight bytes, and what it is as a whole number. The eight bytes are a number of 64 bits: the sign, eleven
 // bits of the exponent's field, and 52 digits.
 
+#![tactic(auto)]
+
 ghost use Rattle.std.specs.Prelude.{◌≡◌, ◌^◌, ◌<◌, ◌≤◌};
 ghost use Rattle.std.specs.Float.{binary64};
 ghost use Rattle.std.specs.Float.Ieee.{of_bits};
@@ -12,7 +14,7 @@ const LEAD: u64 = 0x10_0000_0000_0000;
 
 // What a double is: whole, with its sign and its size, of which 2 to the 52 is told at most; or broken, which is to have a fraction,
 // to be infinite or to be no number.
-#[derive(Drop)]
+#[derive(Clone, Copy)]
 pub enum Measure {
     Whole(bool, u64),
     Broken,

@@ -2,6 +2,8 @@
 // it is judged; none of them asks that the motor is sound. What each rule of the bench says stands
 // in specs/.
 
+#![tactic(auto)]
+
 pub mod numbers;
 
 ghost use Rattle.std.specs.Prelude.{◌≡◌};
@@ -19,7 +21,7 @@ pub const LSEND: u8 = 0x20;
 
 // Where a start wants a motor to go: nowhere, since it is there; beyond the positions' range; to a place; or on in a
 // direction until something ends it.
-#[derive(Drop)]
+#[derive(Clone, Copy)]
 pub enum Course {
     Stay,
     Beyond,
@@ -28,7 +30,7 @@ pub enum Course {
 }
 
 // How a call is judged. Each cause has its own name here, in the order of the numbers, which specs/Numbers.antt gives them.
-#[derive(Drop)]
+#[derive(Clone, Copy)]
 pub enum Verdict {
     Done,
     NoForm,

@@ -2,6 +2,8 @@
 // order that the row makes (making.rt). A row that a request adds has all of these in requests.rt. What the table must hold is
 // line/specs/Forms.antt.
 
+#![tactic(auto)]
+
 pub mod making;
 pub mod requests;
 pub mod rows;
@@ -9,7 +11,7 @@ pub mod tails;
 pub mod words;
 
 // A word that was found in a line, and the place after it; no letters where no word stands.
-#[derive(Drop)]
+#[derive(Clone, Copy)]
 pub struct Word {
     pub letters: u64,
     pub end: usize,

@@ -1,6 +1,8 @@
 // What a line of a script asks for (reading), the texts that are printed for it (texts), the net pulses of its ticks (nets), and
 // what is held of a line while it is read (holding). What each of these is stands in specs/.
 
+#![tactic(auto)]
+
 pub mod holding;
 pub mod nets;
 pub mod reading;
@@ -8,7 +10,7 @@ pub mod texts;
 
 // A line of a script: a command line, which stands after its first two bytes; a switch reading of a channel; a number of
 // ticks; the four-motor card, asked for by the first line alone; or anything else.
-#[derive(Drop)]
+#[derive(Clone, Copy)]
 pub enum Job {
     Send,
     Touch(u8, u8),

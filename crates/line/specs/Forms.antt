@@ -20,7 +20,7 @@ use Rattle.line.specs.declared.Parsed.TheVariants.{Is, Nothing}
 use Rattle.line.specs.declared.Field.{Field}
 use Rattle.line.specs.declared.Got.{Got}
 use Rattle.line.specs.declared.Got.TheVariants.{Here, Absent}
-use Rattle.line.specs.Shapes.{alone, x, x±d, xd, x_dYYY0yyy, x_aBCD, x?, e, EN, DS, ON, OFF, no_fields, read_fields}
+use Rattle.line.specs.Shapes.{alone, x, x±d, xd, x_dyyy0yyy, x_abcd, x?, e, EN, DS, ON, OFF, no_fields, read_fields}
 
 -- a form: a word, the fields after it, and the order that it is
 pub record Row : Type 0 where
@@ -97,8 +97,8 @@ setting_rows =
     ∷ row "SPDH" xd (setting (λ f. SetSpeed hspd f.written.digits))
     ∷ row "SPDM" xd (setting (λ f. SetSpeed mspd f.written.digits))
     ∷ row "SPDL" xd (setting (λ f. SetSpeed lspd f.written.digits))
-    ∷ row "SETLS" x_dYYY0yyy (setting (λ f. SetSwitches f.first f.second))
-    ∷ row "SETMT" x_aBCD (setting (λ f. SetMotor f.first))
+    ∷ row "SETLS" x_dyyy0yyy (setting (λ f. SetSwitches f.first f.second))
+    ∷ row "SETMT" x_abcd (setting (λ f. SetMotor f.first))
     ∷ []
 
 -- `PS?x`, `FL?x`, `BL?x`, `SPD?x`, `SPDH?x`, `SPDM?x`, `SPDL?x`, `SETLS?x`, `SETMT?x`, `STSx?`.

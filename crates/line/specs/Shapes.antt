@@ -34,12 +34,12 @@ abbrev pub xd : List Field
 xd = Channel ∷ Unsigned ∷ []
 
 -- as in `SETLSxDYYY0yyy`
-abbrev pub x_dYYY0yyy : List Field
-x_dYYY0yyy = Channel ∷ FourDigits ∷ ZeroThree ∷ []
+abbrev pub x_dyyy0yyy : List Field
+x_dyyy0yyy = Channel ∷ FourDigits ∷ ZeroThree ∷ []
 
 -- as in `SETMTxABCD`
-abbrev pub x_aBCD : List Field
-x_aBCD = Channel ∷ FourDigits ∷ []
+abbrev pub x_abcd : List Field
+x_abcd = Channel ∷ FourDigits ∷ []
 
 -- as in `STSx?`
 abbrev pub x? : List Field

@@ -1,18 +1,20 @@
 // A command line and the order that it is. An order carries what was written, in range or not: a value is judged later, in
 // its place among the refusals. The lines themselves are listed in specs/Forms.antt, row by row.
 
+#![tactic(auto)]
+
 pub mod cards;
 pub mod field_reading;
 
 // A number as it was written: its sign, and the value of its 1 to 10 digits.
-#[derive(Drop)]
+#[derive(Clone, Copy)]
 pub struct Written {
     pub minus: bool,
     pub digits: u64,
 }
 
 // Four decimal digits as they were written.
-#[derive(Drop)]
+#[derive(Clone, Copy)]
 pub struct Four {
     pub a: u8,
     pub b: u8,
@@ -21,7 +23,7 @@ pub struct Four {
 }
 
 // What the fields of a line gave: the channel x, a number, and two groups of four digits (DYYY and 0yyy, or ABCD).
-#[derive(Drop)]
+#[derive(Clone, Copy)]
 pub struct Fields {
     pub channel: u8,
     pub written: Written,
@@ -30,7 +32,7 @@ pub struct Fields {
 }
 
 // The kinds of field that may follow a word. `End` stands where a row has no field more, `Never` where no line has the form.
-#[derive(Drop)]
+#[derive(Clone, Copy)]
 pub enum Field {
     // x
     Channel,
@@ -60,7 +62,7 @@ pub enum Field {
 
 // What follows a word, as the code reads it: the fields of each are in specs/Tails.antt. `NoLine` stands where no line has the
 // form.
-#[derive(Drop)]
+#[derive(Clone, Copy)]
 pub enum Tail {
     // nothing, as in ASSTP
     Alone,
@@ -80,7 +82,7 @@ pub enum Tail {
 }
 
 // What follows x.
-#[derive(Drop)]
+#[derive(Clone, Copy)]
 pub enum AfterX {
     // nothing, as in SCANPx
     OnlyX,
@@ -97,14 +99,14 @@ pub enum AfterX {
 }
 
 // What reading a field gives: the fields so far and the place after it, or that it is not there.
-#[derive(Drop)]
+#[derive(Clone, Copy)]
 pub enum Got {
     Here(Fields, usize),
     Absent,
 }
 
 // Starts. A direction is 1 for CW (P) and 2 for CCW (N).
-#[derive(Drop)]
+#[derive(Clone, Copy)]
 pub enum Start {
     // ABSx±d
     Abs(Written),
@@ -117,7 +119,7 @@ pub enum Start {
 }
 
 // Settings of a channel. A speed is numbered 0 L, 1 M, 2 H.
-#[derive(Drop)]
+#[derive(Clone, Copy)]
 pub enum Setting {
     // PSx±d
     Preset(Written),
@@ -136,7 +138,7 @@ pub enum Setting {
 }
 
 // What is asked of a channel.
-#[derive(Drop)]
+#[derive(Clone, Copy)]
 pub enum Question {
     // PS?x
     AskPosition,
@@ -157,7 +159,7 @@ pub enum Question {
 }
 
 // What is asked of the head.
-#[derive(Drop)]
+#[derive(Clone, Copy)]
 pub enum HeadQuestion {
     // ALL_REP?
     AskAllReply,
@@ -175,7 +177,7 @@ pub enum HeadQuestion {
 
 // What is to be changed in the head. Mode, all-reply and pause carry the byte that it is to hold: 0 local, 1 remote; 0 off, 1
 // on.
-#[derive(Drop)]
+#[derive(Clone, Copy)]
 pub enum HeadOrder {
     // LOC, REM
     Mode(u8),
@@ -191,7 +193,7 @@ pub enum HeadOrder {
 
 // An order, with the channel that it names first. A stop carries the end flag that it sets. What concerns the head has two
 // arms, one that asks and one that changes, so that no other line of the head adds an arm here.
-#[derive(Drop)]
+#[derive(Clone, Copy)]
 pub enum Order {
     Go(u8, Start),
     // SSTPx, ESTPx
@@ -207,7 +209,7 @@ pub enum Order {
 }
 
 // What a line is: an order, or nothing that has one of the forms.
-#[derive(Drop)]
+#[derive(Clone, Copy)]
 pub enum Parsed {
     Is(Order),
     Nothing,

@@ -14,7 +14,7 @@ use steps::{Ending, Step};
 use text::quoted::write_text;
 
 // What a step leaves: how many bytes it printed, whether they are the last, the place after it, and the total up to there.
-#[derive(Drop)]
+#[derive(Clone, Copy)]
 struct Turn {
     count: usize,
     last: bool,

@@ -1,5 +1,7 @@
 // Switches, room and soundness of one motor. What each rule of the bench says stands in specs/.
 
+#![tactic(auto)]
+
 ghost use Rattle.std.specs.Prelude.{◌≡◌, ◌≤◌, not, ◌&&◌, length, if◌then◌else◌, ◌==◌, bit_and, nat_eq, nat_le};
 ghost use Rattle.digits.specs.Bytes.{part, all_zero};
 ghost use Rattle.digits.specs.Words.{word};

@@ -1,6 +1,8 @@
 // A line on a sound table: its order is judged, and then carried out and answered, or refused. What it leaves is one definition,
 // `taken` of specs/Taking.antt.
 
+#![tactic(auto)]
+
 ghost use Rattle.std.specs.Prelude.{◌≡◌, true, ◌+◌, ◌*◌, ◌≤◌, length};
 ghost use Rattle.drive.specs.Numbers.{number_of};
 ghost use Rattle.drive.specs.declared.Verdict.TheVariants.{Done};
@@ -36,7 +38,7 @@ fn result_of(v: Verdict, count: usize) -> u32
 // Refuses a line: its flag is set, and its text written if all-reply is on.
 fn refuse(t: &mut [u8], v: Verdict, reply: &mut [u8]) -> u32
     requires { (sound_table t.old ≡ true) × (32 ≤ length reply.old) }
-    ensures* { λ r. ⌜ record { result = r; table = t.new; reply = reply.new } ≡ refused t.old v reply.old ⌝ }
+    ensures { record { result = result; table = t.new; reply = reply.new } ≡ refused t.old v reply.old }
 {
     set_flag(t, v);
     let h = read_head(t);
@@ -47,7 +49,7 @@ fn refuse(t: &mut [u8], v: Verdict, reply: &mut [u8]) -> u32
 // Answers a question about a channel; the table stays as it is.
 fn tell_channel(t: &[u8], x: u8, q: Question, reply: &mut [u8]) -> u32
     requires { (sound_table t.now ≡ true) × (32 ≤ length reply.old) × (x ≤ 15) }
-    ensures* { λ r. ⌜ record { result = r; table = t.now; reply = reply.new } ≡ obeyed t.now (Ask x q) reply.old ⌝ }
+    ensures { record { result = result; table = t.now; reply = reply.new } ≡ obeyed t.now (Ask x q) reply.old }
 {
     let h = read_head(t);
     let count = write_question(reply, h.mode, x, motor_at(t, x), q);
@@ -57,7 +59,7 @@ fn tell_channel(t: &[u8], x: u8, q: Question, reply: &mut [u8]) -> u32
 // Answers a question about the head; the table stays as it is.
 fn tell_head(t: &[u8], q: HeadQuestion, reply: &mut [u8]) -> u32
     requires { (sound_table t.now ≡ true) × (32 ≤ length reply.old) }
-    ensures* { λ r. ⌜ record { result = r; table = t.now; reply = reply.new } ≡ obeyed t.now (AskHead q) reply.old ⌝ }
+    ensures { record { result = result; table = t.now; reply = reply.new } ≡ obeyed t.now (AskHead q) reply.old }
 {
     let count = write_head_question(reply, read_head(t), q);
     result_of(Verdict::Done, count)
@@ -66,7 +68,7 @@ fn tell_head(t: &[u8], q: HeadQuestion, reply: &mut [u8]) -> u32
 // Carries out an accepted order: the table is changed, and OK written if all-reply is on after it.
 fn carry_out(t: &mut [u8], o: Order, reply: &mut [u8]) -> u32
     requires { (sound_table t.old ≡ true) × (32 ≤ length reply.old) × (order_made o ≡ true) × (value_in_range o ≡ true) }
-    ensures* { λ r. ⌜ record { result = r; table = t.new; reply = reply.new } ≡ replied Done (changed t.old o) (told (changed t.old o) Done) reply.old ⌝ }
+    ensures { record { result = result; table = t.new; reply = reply.new } ≡ replied Done (changed t.old o) (told (changed t.old o) Done) reply.old }
 {
     change(t, o);
     let h = read_head(t);
@@ -77,7 +79,7 @@ fn carry_out(t: &mut [u8], o: Order, reply: &mut [u8]) -> u32
 // Obeys an accepted order and writes its answer.
 fn obey(t: &mut [u8], o: Order, reply: &mut [u8]) -> u32
     requires { (sound_table t.old ≡ true) × (32 ≤ length reply.old) × (order_made o ≡ true) × (value_in_range o ≡ true) }
-    ensures* { λ r. ⌜ record { result = r; table = t.new; reply = reply.new } ≡ obeyed t.old o reply.old ⌝ }
+    ensures { record { result = result; table = t.new; reply = reply.new } ≡ obeyed t.old o reply.old }
 {
     match o {
         Order::Ask(x, q) => tell_channel(t, x, q, reply),
@@ -89,7 +91,7 @@ fn obey(t: &mut [u8], o: Order, reply: &mut [u8]) -> u32
 // Judges an order, and obeys or refuses it.
 fn take_order(t: &mut [u8], o: Order, reply: &mut [u8]) -> u32
     requires { (sound_table t.old ≡ true) × (32 ≤ length reply.old) × (order_made o ≡ true) }
-    ensures* { λ r. ⌜ record { result = r; table = t.new; reply = reply.new } ≡ taken t.old (on_card (head_of t.old).card (Is o)) reply.old ⌝ }
+    ensures { record { result = result; table = t.new; reply = reply.new } ≡ taken t.old (on_card (head_of t.old).card (Is o)) reply.old }
 {
     let v = judge_order(t, o);
     if number_of(v) == 0 {
@@ -102,7 +104,7 @@ fn take_order(t: &mut [u8], o: Order, reply: &mut [u8]) -> u32
 // Takes what a line is: an order, or nothing.
 pub fn take_line(t: &mut [u8], p: Parsed, reply: &mut [u8]) -> u32
     requires { (sound_table t.old ≡ true) × (32 ≤ length reply.old) × (parsed_made p ≡ true) }
-    ensures* { λ r. ⌜ record { result = r; table = t.new; reply = reply.new } ≡ taken t.old (on_card (head_of t.old).card p) reply.old ⌝ }
+    ensures { record { result = result; table = t.new; reply = reply.new } ≡ taken t.old (on_card (head_of t.old).card p) reply.old }
 {
     match p {
         Parsed::Is(o) => take_order(t, o, reply),

@@ -1,6 +1,8 @@
 // One tick of one motor: the pulses that it is given and the motor after it. No function asks that the motor is sound. What each
 // rule of the bench says stands in specs/.
 
+#![tactic(auto)]
+
 ghost use Rattle.std.specs.Prelude.{◌≡◌, false, ◌+◌, ◌^◌, ◌<◌};
 ghost use Rattle.record.specs.Record.{with_place};
 ghost use Rattle.pulses.specs.Ticks.{tick_speed, due, rest, distance_left, allowed, given, reached, used_up, advanced};
@@ -13,7 +15,7 @@ use motor::{is_moving, room_of};
 use record::Motor;
 
 // A motor after one tick, and the pulses that it was given.
-#[derive(Drop)]
+#[derive(Clone, Copy)]
 pub struct Ticked {
     pub motor: Motor,
     pub pulses: u32,

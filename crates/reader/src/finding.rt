@@ -11,7 +11,7 @@ use form::requests::NO_ROW;
 use form::rows::first_row;
 
 // The letters at a place: as one number, and how many they are.
-#[derive(Drop)]
+#[derive(Clone, Copy)]
 struct Letters {
     letters: u64,
     count: usize,

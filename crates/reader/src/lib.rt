@@ -1,6 +1,8 @@
 // The line in hand and the place reached, together: a reader over the caller's bytes. Each function takes the reader apart and
 // leaves the work to one over the slice and the number; `read_line` is for everyone else.
 
+#![tactic(auto)]
+
 pub mod finding;
 pub mod matching;
 
@@ -13,7 +15,7 @@ use crate::matching::order_at;
 use form::Word;
 use line::Parsed;
 
-#[derive(Drop)]
+#[derive(Clone, Copy)]
 pub struct Reader<'a> {
     pub line: &'a [u8],
     pub place: usize,

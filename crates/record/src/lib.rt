@@ -2,6 +2,8 @@
 // motor and back. A position, a limit and a target are kept as places (crate digits): the number plus 2,147,483,648. What
 // stands where is said in specs/.
 
+#![tactic(auto)]
+
 ghost use Rattle.std.specs.Prelude.{◌≡◌, ◌||◌, ◌+◌, ◌≤◌, eqb, length};
 ghost use Rattle.digits.specs.Bytes.{put};
 ghost use Rattle.digits.specs.Places.{cw};
@@ -14,14 +16,14 @@ use digits::places::{CW, ORIGIN, place_of, word_of};
 use digits::words::{byte_at, long_at, put_byte, put_long, put_short, short_at};
 
 // The digital limits.
-#[derive(Drop)]
+#[derive(Clone, Copy)]
 pub struct Limits {
     pub cw: u32,
     pub ccw: u32,
 }
 
 // HSPD, MSPD and LSPD in pulses per second, and which of them is selected: 0 L, 1 M, 2 H.
-#[derive(Drop)]
+#[derive(Clone, Copy)]
 pub struct Speeds {
     pub high: u32,
     pub middle: u32,
@@ -31,7 +33,7 @@ pub struct Speeds {
 
 // The SETLS digits DYYY0yyy read as a binary byte, and the contacts, closed = 1: bit 0 CW, bit 1 CCW, bit 2 HP; read is 0
 // while the contacts are unknown, and 1 once a reading has told them.
-#[derive(Drop)]
+#[derive(Clone, Copy)]
 pub struct Wiring {
     pub setls: u8,
     pub contacts: u8,
@@ -39,7 +41,7 @@ pub struct Wiring {
 }
 
 // The SETMT digits A, B, C and D.
-#[derive(Drop)]
+#[derive(Clone, Copy)]
 pub struct Setup {
     pub a: u8,
     pub b: u8,
@@ -49,7 +51,7 @@ pub struct Setup {
 
 // The drive: going is 0 stopped, 1 CW, 2 CCW; held is whether it waits for its release; kind is 0 a scan, 1 to a target.
 // Stopped, all of it is zero, and the target is the place of position 0.
-#[derive(Drop)]
+#[derive(Clone, Copy)]
 pub struct Drive {
     pub going: u8,
     pub held: bool,
@@ -60,7 +62,7 @@ pub struct Drive {
 }
 
 // The motor of one channel; ended holds the end flags.
-#[derive(Drop)]
+#[derive(Clone, Copy)]
 pub struct Motor {
     pub place: u32,
     pub limits: Limits,

@@ -1,5 +1,7 @@
 // What is answered, written straight into the reply buffer that the caller lends. What stands in each answer is said in specs/.
 
+#![tactic(auto)]
+
 pub mod free;
 pub mod settings;
 pub mod texts;

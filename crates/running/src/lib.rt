@@ -1,6 +1,8 @@
 // A line of a script, run on a table: what it does to the table, and its text at the front of the buffer that the caller lends.
 // What a line does and prints is said in specs/.
 
+#![tactic(auto)]
+
 ghost use Rattle.std.specs.Prelude.{◌≡◌, ◌≤◌, length, replicate};
 ghost use Rattle.digits.specs.Places.{origin};
 ghost use Rattle.jobs.specs.Bounds.{NetsWithin, most_net, most_ticks, out_size};
@@ -17,7 +19,7 @@ use urqolina::{urqolina_command, urqolina_fresh, urqolina_reading, urqolina_tick
 // One tick, whose counts go to the nets. The pulse buffer is zeroed each time, so that a tick that is refused counts nothing.
 fn tick_once(table: &mut [u8], nets: &mut [u32]) -> u32
     requires { (length nets.old ≡ 16) × NetsWithin most_net nets.old }
-    ensures* { λ r. ⌜ record { result = r; table = table.new; nets = nets.new } ≡ tick_of (record { result = 0; table = table.old; nets = nets.old }) ⌝ }
+    ensures { record { result = result; table = table.new; nets = nets.new } ≡ tick_of (record { result = 0; table = table.old; nets = nets.old }) }
 {
     let mut pulses = [0u8; 64];
     let result = urqolina_tick(table, &mut pulses);
@@ -28,7 +30,7 @@ fn tick_once(table: &mut [u8], nets: &mut [u32]) -> u32
 // As many ticks as a line has, from nets of 0. The result is the last one's.
 fn wait(table: &mut [u8], n: u32, nets: &mut [u32]) -> u32
     requires { (n ≤ most_ticks) × (nets.old ≡ replicate 16 origin) }
-    ensures* { λ r. ⌜ record { result = r; table = table.new; nets = nets.new } ≡ waited n (record { result = 0; table = table.old; nets = nets.old }) ⌝ }
+    ensures { record { result = result; table = table.new; nets = nets.new } ≡ waited n (record { result = 0; table = table.old; nets = nets.old }) }
 {
     let mut result: u32 = 0;
     let mut left = n;

@@ -7,6 +7,8 @@
 // them, at the lowest speed and at the highest. In a sixth step a target of 2.5 stands in the place of the speed, so that the last line is
 // a refusal, of the tag and not of the double.
 
+#![tactic(auto)]
+
 use libc::{STDIN_FILENO, STDOUT_FILENO};
 use lists::listing::write_list;
 

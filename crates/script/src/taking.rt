@@ -10,7 +10,7 @@ use jobs::holding::keep;
 use running::run_line;
 
 // What a byte leaves: whether the line is the first one, how many bytes of it are held, and how many are written.
-#[derive(Drop)]
+#[derive(Clone, Copy)]
 pub struct Taken {
     pub first: bool,
     pub held: usize,
@@ -47,7 +47,7 @@ pub fn take_byte(
 
 // How far a run of bytes got: whether the line is the first one, how many bytes of it are held, how many of the run are read, and how many
 // are written.
-#[derive(Drop)]
+#[derive(Clone, Copy)]
 pub struct Run {
     pub first: bool,
     pub held: usize,

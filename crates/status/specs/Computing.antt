@@ -2,8 +2,8 @@
 -- shut. It says nothing itself.
 use Rattle.text.specs.Computing.{computing_text}
 use Rattle.motor.specs.Computing.{computing_motor}
-use Rattle.status.specs.Status.{switch_bits, status_v, status_hH, mode_letter, going_letter, status_text}
+use Rattle.status.specs.Status.{switch_bits, status_v, status_hh, mode_letter, going_letter, status_text}
 
 unfoldable pub computing_status : Unit {0}
-unfolding computing_text computing_motor switch_bits status_v status_hH mode_letter going_letter status_text
+unfolding computing_text computing_motor switch_bits status_v status_hh mode_letter going_letter status_text
 computing_status = tt

@@ -25,8 +25,8 @@ unfoldable pub status_v : Motor → ℕ
 status_v m = switch_bits m.wiring + flag_if (not (busy m) && eqb m.setup.b 0) 8
 
 -- "HH: the end flags, or 03 while driving (000)"; 02 §3: of a held drive "HH 01"
-unfoldable pub status_hH : Motor → ℕ
-status_hH m = cond (moving m) 3 (cond (busy m) 1 m.ended)
+unfoldable pub status_hh : Motor → ℕ
+status_hh m = cond (moving m) 3 (cond (busy m) 1 m.ended)
 
 -- "R or L": R is remote mode, L local
 unfoldable pub mode_letter : ℕ → ℕ
@@ -40,4 +40,4 @@ going_letter m = cond (moving m) (cond (eqb m.drive.going cw) (code "P") (code "
 unfoldable pub status_text : ℕ → ℕ → Motor → List ℕ
 status_text k x m =
     mode_letter k ∷ hex_digit x ∷ going_letter m ∷ hex_digit (status_v m)
-    ∷ (hex_byte (status_hH m) ++ position_text m.place)
+    ∷ (hex_byte (status_hh m) ++ position_text m.place)

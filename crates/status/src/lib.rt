@@ -1,10 +1,12 @@
 // The status of a channel: six bytes, and then the position, written into the rest of the buffer.
 
+#![tactic(auto)]
+
 ghost use Rattle.std.specs.Prelude.{◌≡◌, [], ◌∷◌, ◌+◌, ◌≤◌, length};
 ghost use Rattle.digits.specs.Bytes.{put};
 ghost use Rattle.text.specs.Text.{Wrote, hex_digit, hex_byte};
 ghost use Rattle.motor.specs.Switches.{active};
-ghost use Rattle.status.specs.Status.{flag_if, switch_bits, status_v, status_hH, mode_letter, going_letter, status_text};
+ghost use Rattle.status.specs.Status.{flag_if, switch_bits, status_v, status_hh, mode_letter, going_letter, status_text};
 
 use digits::places::CW;
 use motor::{is_active, is_busy, is_moving, is_unread};
@@ -43,7 +45,7 @@ fn status_v(m: Motor) -> u8
 
 // The byte HH.
 fn status_hh(m: Motor) -> u8
-    ensures { result ≡ status_hH m }
+    ensures { result ≡ status_hh m }
 {
     if is_moving(m) {
         3
@@ -85,7 +87,7 @@ fn write_letters(out: &mut [u8], k: u8, x: u8, m: Motor)
 // V and HH: bytes 3 to 5.
 fn write_flags(out: &mut [u8], m: Motor)
     requires { 32 ≤ length out.old }
-    ensures { out.new ≡ put out.old 3 (hex_digit (status_v m) ∷ hex_byte (status_hH m)) }
+    ensures { out.new ≡ put out.old 3 (hex_digit (status_v m) ∷ hex_byte (status_hh m)) }
 {
     let hh = status_hh(m);
     out[3] = hex_digit(status_v(m));

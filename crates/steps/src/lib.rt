@@ -1,6 +1,8 @@
 // The steps of a scan list: its fields (frames), what their doubles are worth (judging), and the step that stands at a place
 // (reading). What each of these is stands in specs/.
 
+#![tactic(auto)]
+
 pub mod frames;
 pub mod judging;
 pub mod reading;
@@ -21,7 +23,7 @@ pub const OUT_OF_RANGE: u32 = 25;
 pub const TOO_MANY: u32 = 26;
 
 // A set-point, with the double that it came with.
-#[derive(Drop)]
+#[derive(Clone, Copy)]
 pub enum SetPoint {
     Target(f64),
     Distance(f64),
@@ -29,42 +31,42 @@ pub enum SetPoint {
 }
 
 // The target, or the distance, and the speed of a move, as the two doubles that they came in.
-#[derive(Drop)]
+#[derive(Clone, Copy)]
 pub struct Pair {
     pub target: f64,
     pub speed: f64,
 }
 
 // What a double is judged to be: the whole number that it stands for, a position by its place, or the number of its refusal.
-#[derive(Drop)]
+#[derive(Clone, Copy)]
 pub enum Judged {
     Number(u32),
     Unfit(u32),
 }
 
 // What refuses a list: its number, and the offset of its field.
-#[derive(Drop)]
+#[derive(Clone, Copy)]
 pub struct Fault {
     pub number: u32,
     pub offset: usize,
 }
 
 // The field of a target or a distance.
-#[derive(Drop)]
+#[derive(Clone, Copy)]
 pub enum Aim {
     Point(SetPoint),
     NoPoint(Fault),
 }
 
 // The field of a speed.
-#[derive(Drop)]
+#[derive(Clone, Copy)]
 pub enum Rate {
     Speed(f64),
     NoSpeed(Fault),
 }
 
 // The first field of a step: a channel, or a dwell with its double and its number, or what refuses it.
-#[derive(Drop)]
+#[derive(Clone, Copy)]
 pub enum Opening {
     Channel(u8),
     Dwelling(f64, u32),
@@ -72,7 +74,7 @@ pub enum Opening {
 }
 
 // A move of a channel to a target or by a distance, each by its place, and at a speed.
-#[derive(Drop)]
+#[derive(Clone, Copy)]
 pub struct Move {
     pub channel: u8,
     pub relative: bool,
@@ -81,14 +83,14 @@ pub struct Move {
 }
 
 // How a list ends: whole, or with what refuses it.
-#[derive(Drop)]
+#[derive(Clone, Copy)]
 pub enum Ending {
     Complete,
     Refused(Fault),
 }
 
 // The step at a place of the list: none, since the list ends there; a move; or a dwell with its double and its number.
-#[derive(Drop)]
+#[derive(Clone, Copy)]
 pub enum Step {
     Last(Ending),
     Drive(Move),

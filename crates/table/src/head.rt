@@ -12,7 +12,7 @@ use digits::words::{byte_at, short_at, wide_at};
 
 // The mode: 0 local, 1 remote. All-reply: 0 off, 1 on. The error flags: 0 to 15. Pause: 0 off, 1 on. The busy set: bit c for channel c. The
 // card: 0 sixteen motors, 1 four.
-#[derive(Drop)]
+#[derive(Clone, Copy)]
 pub struct Head {
     pub mode: u8,
     pub reply: u8,

@@ -8,14 +8,14 @@ ghost use Rattle.text.specs.Text.{last_digits, digit_count, decimal, sign_byte, 
 use digits::places::ORIGIN;
 
 // A number as it stands in a text: what its digits are worth, and how many there are.
-#[derive(Drop)]
+#[derive(Clone, Copy)]
 pub enum Number {
     Nothing,
     Read { value: u64, count: usize },
 }
 
 // Digits that were gathered: what they are worth, and how many they are.
-#[derive(Drop)]
+#[derive(Clone, Copy)]
 struct Gathered {
     value: u64,
     count: usize,

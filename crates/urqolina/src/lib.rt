@@ -2,6 +2,8 @@
 // and writes nothing before everything is judged. What each leaves in every buffer, for all its inputs, is one definition of
 // specs/Calls.antt.
 
+#![tactic(auto)]
+
 mod ticking;
 
 ghost use Rattle.std.specs.Prelude.{◌≡◌, true, ◌≤◌, length};
@@ -33,7 +35,7 @@ const REPLY: usize = 32;
 // Makes the fresh table of a card, 0 of sixteen motors or 1 of four.
 #[unsafe(no_mangle)]
 pub extern "C" fn urqolina_fresh(table: &mut [u8], card: u32) -> u32
-    ensures* { λ r. ⌜ record { result = r; table = table.new } ≡ fresh_call table.old card ⌝ }
+    ensures { record { result = result; table = table.new } ≡ fresh_call table.old card }
 {
     if (table.len() == TABLE) & (card <= 1) {
         make_fresh(table, card as u8);
@@ -46,7 +48,7 @@ pub extern "C" fn urqolina_fresh(table: &mut [u8], card: u32) -> u32
 // Takes one command line and writes its reply.
 #[unsafe(no_mangle)]
 pub extern "C" fn urqolina_command(table: &mut [u8], line: &[u8], reply: &mut [u8]) -> u32
-    ensures* { λ r. ⌜ record { result = r; table = table.new; reply = reply.new } ≡ command_call table.old line.now reply.old ⌝ }
+    ensures { record { result = result; table = table.new; reply = reply.new } ≡ command_call table.old line.now reply.old }
 {
     if (table.len() == TABLE) & (REPLY <= reply.len()) {
         if sound_table(table) {
@@ -71,7 +73,7 @@ fn read_channel(t: &mut [u8], channel: u8, contacts: u8)
 // Takes one switch reading of a channel.
 #[unsafe(no_mangle)]
 pub extern "C" fn urqolina_reading(table: &mut [u8], channel: u32, contacts: u32) -> u32
-    ensures* { λ r. ⌜ record { result = r; table = table.new } ≡ reading_call table.old channel contacts ⌝ }
+    ensures { record { result = result; table = table.new } ≡ reading_call table.old channel contacts }
 {
     if (table.len() == TABLE) & (channel <= 15) & (contacts <= 7) {
         if sound_table(table) {
@@ -88,7 +90,7 @@ pub extern "C" fn urqolina_reading(table: &mut [u8], channel: u32, contacts: u32
 // Takes one tick and writes the pulses of each channel.
 #[unsafe(no_mangle)]
 pub extern "C" fn urqolina_tick(table: &mut [u8], pulses: &mut [u8]) -> u32
-    ensures* { λ r. ⌜ record { result = r; table = table.new; pulses = pulses.new } ≡ tick_call table.old pulses.old ⌝ }
+    ensures { record { result = result; table = table.new; pulses = pulses.new } ≡ tick_call table.old pulses.old }
 {
     if (table.len() == TABLE) & (pulses.len() == PULSES) {
         if sound_table(table) {

@@ -7,7 +7,7 @@ use lib.ListN.{length-set}
 use borrow.Author.Rules.{rules}
 use Rattle.text.specs.Text.{hex_digit, hex_byte}
 use Rattle.digits.proofs.PutLaws.{stores_put}
-use Rattle.status.specs.Status.{status_v, status_hH}
+use Rattle.status.specs.Status.{status_v, status_hh}
 use Rattle.status.proofs.write_flags.Statement.{statement}
 use Rattle.status.proofs.write_flags.Tie as tie
 
@@ -47,7 +47,7 @@ returns c =
     let e : v.result % 16 ≡ v.result = omega arith in
     let d : h.result / 16 % 16 ≡ h.result / 16 = omega arith in
     rw (c.hex-digit3.ensures, c.before.hex-digit2.ensures, c.before.before.hex-digit.ensures, e, d, v.ensures.0, h.ensures)
-    (stores_put (hex_digit (status_v a.m) ∷ hex_byte (status_hH a.m)) a.out.now 3 (omega arith))
+    (stores_put (hex_digit (status_v a.m) ∷ hex_byte (status_hh a.m)) a.out.now 3 (omega arith))
 
 pub write_flags_spec : {M : Type 1} → statement M
 write_flags_spec =
