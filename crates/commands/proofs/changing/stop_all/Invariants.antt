@@ -1,0 +1,18 @@
+-- `commands::changing::stop_all` meets its contract. Assumes nothing.
+use borrow.Author.Rules.{rules}
+use native.Mathlib.Omega.{arith}
+use mathlib.Core.Path.{◌≡◌, sym, ◌∙◌}
+use Prim.Native.Nat.{◌-◌, ◌≤◌}
+use lib.ListN.{length}
+use mathlib.Core.Bool.{true}
+use Rattle.motor.specs.Sound.{sound_record}
+use Rattle.table.specs.Layout.{table_size, record_at, sealed}
+use Rattle.drive.specs.Drives.{stopped}
+use Rattle.table.proofs.TableLaws.{up_to, up_to_none, up_to_record, up_to_motor, up_to_sealed, up_to_next, up_to_all, sound_length, sound_record_at, sound_sealed, sound_set_at}
+use Rattle.commands.proofs.changing.stop_all.Given as goal
+
+abbrev pub invariant-loop-x : goal.invariant-loop-x
+invariant-loop-x l = (l.x ≤ 16) × (length l.t ≡ table_size) × (l.t ≡ up_to (stopped l.flags) l.x l.initial.t)
+
+abbrev pub decreases-loop-x : goal.decreases-loop-x
+decreases-loop-x l = 16 - l.x

@@ -1,0 +1,9 @@
+-- `drive::judge_speed_change` meets its contract. Assumes nothing.
+use borrow.Author.Rules.{rules}
+use Rattle.drive.proofs.judge_speed_change.Goals as goal
+
+pub returns-then-is_busy : goal.returns-then-is_busy
+returns-then-is_busy c = rw (← c.is_busy.ensures, c.if-is_busy.true)
+
+pub returns-else-is_busy : goal.returns-else-is_busy
+returns-else-is_busy c = rw (← c.is_busy.ensures, c.if-is_busy.false)

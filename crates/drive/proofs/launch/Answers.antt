@@ -1,0 +1,6 @@
+-- `drive::launch` meets its contract. Assumes nothing.
+use borrow.Author.Rules.{rules}
+use Rattle.drive.proofs.launch.Goals as goal
+
+pub returns : goal.returns
+returns c = rw (c.with_drive.ensures, c.speed_numbered-speed.ensures)

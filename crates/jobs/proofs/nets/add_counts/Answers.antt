@@ -1,0 +1,46 @@
+-- `jobs::nets::add_counts` meets its contract. Assumes nothing.
+use Prim.Native.Nat.{◌-◌, ◌≤◌}
+use mathlib.Core.Path.{◌≡◌, sym}
+use native.Mathlib.Numerals.{add-one}
+use native.Mathlib.Omega.{arith}
+use lib.ListN.{get_or, length}
+use borrow.Author.Rules.{rules}
+use Rattle.digits.specs.Places.{origin}
+use Rattle.jobs.proofs.OutLaws.{within_any}
+use Rattle.jobs.proofs.NetLaws.{count_at, nets_up_to, up_to_none, up_to_all, up_to_length, up_to_next, up_to_more}
+use Rattle.jobs.proofs.nets.add_counts.Goals as goal
+
+-- as many nets as there were
+size : (c : tie.At-loop invariant-loop decreases-loop) → length c.loop.nets ≡ length c.before.before.before.args.nets.now
+size c = rw c.loop.invariant.1 (up_to_length c.loop.c _ _)
+
+pub loop-c-init : goal.loop-c-init
+loop-c-init c = (omega arith, sym (up_to_none _ _))
+
+pub bounds-nets-c : goal.bounds-nets-c
+bounds-nets-c c = rw (size c) (omega arith)
+
+pub added-requires : goal.added-requires
+added-requires c =
+    let a = c.args in
+    let n : get_or c.loop-c.nets c.loop-c.c 0 ≡ get_or a.nets.now c.loop-c.c origin =
+    rw (c.loop-c.invariant.1, up_to_next) (within_any a.nets.now c.loop-c.c 0 origin (omega arith)) in
+    let p : c.place_of.result ≡ count_at a.pulses.now c.loop-c.c = rw (c.place_of.ensures, c.long_at.ensures) in
+    rw (n, p) (omega (arith, c.requires.1.0 c.loop-c.c, c.requires.1.1 c.loop-c.c))
+
+pub bounds-nets-c-in-loop-c : goal.bounds-nets-c-in-loop-c
+bounds-nets-c-in-loop-c c = rw (size c) (omega arith)
+
+pub loop-c-preserved : goal.loop-c-preserved
+loop-c-preserved c =
+    let a = c.args in (
+      omega arith,
+      rw (c.added.ensures, c.place_of.ensures, c.long_at.ensures, c.loop-c.invariant.1, up_to_next, add-one c.loop-c.c)
+          (up_to_more c.loop-c.c a.nets.now a.pulses.now (omega arith)),
+    )
+
+pub returns : goal.returns
+returns c =
+    let a = c.args in
+    let e : c.loop-c.c ≡ length a.nets.now = omega arith in
+    rw (c.loop-c.invariant.1, e) (up_to_all a.nets.now a.pulses.now)

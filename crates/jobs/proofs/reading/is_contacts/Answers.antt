@@ -1,0 +1,6 @@
+-- `jobs::reading::is_contacts` meets its contract. Assumes nothing.
+use borrow.Author.Rules.{rules}
+use Rattle.jobs.proofs.reading.is_contacts.Goals as goal
+
+pub returns : goal.returns
+returns c = rw (c.digit_value.ensures, c.is_digit.ensures)

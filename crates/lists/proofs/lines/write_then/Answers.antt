@@ -1,0 +1,30 @@
+-- `lists::lines::write_then` meets its contract. Assumes nothing.
+use native.Mathlib.Omega.{arith}
+use lib.ListN.{length-append}
+use Rattle.text.proofs.TextLaws.{decimal_within}
+use Rattle.jobs.specs.Texts.{plain_text}
+use Rattle.jobs.proofs.OutLaws.{text_byte}
+use borrow.Author.Rules.{rules}
+use Rattle.lists.proofs.lines.write_then.Goals as goal
+
+pub write_decimal-k-requires : goal.write_decimal-k-requires
+write_decimal-k-requires c = omega (arith, decimal_within 1 c.args.n (omega arith))
+
+pub bounds-out-k : goal.bounds-out-k
+bounds-out-k c =
+    let w = c.write_decimal-k in
+    omega (arith, w.auto.0, w.ensures.count, decimal_within 1 c.args.n (omega arith))
+
+pub overflow_add-result : goal.overflow_add-result
+overflow_add-result c =
+    let w = c.write_decimal-k in
+    omega (arith, w.ensures.count, decimal_within 1 c.args.n (omega arith))
+
+pub returns : goal.returns
+returns c =
+    let a = c.args in
+    let w = c.write_decimal-k in
+    record {
+      count = rw length-append (omega (arith, w.ensures.count));
+      buffer = rw w.ensures.buffer (text_byte a.out.now (plain_text a.n) a.b w.result w.ensures.count (omega (arith, w.ensures.count, decimal_within 1 a.n (omega arith))));
+    }

@@ -1,0 +1,78 @@
+-- `lists::listing::write_list` meets its contract. Assumes nothing.
+use borrow.Rule.Slice.PartMut.{same_len_mid}
+use Rattle.text.specs.Text.{bytes}
+use borrow.Author.Rules.{rules}
+use mathlib.Core.Path.{sym, ◌∙◌}
+use native.Mathlib.Omega.{arith}
+use Prim.Native.Nat.{◌-◌}
+use lib.ListN.{length, length-take, length-drop}
+use Rattle.lists.proofs.ListLaws.{Going, begin, next, finish_step, finish_last, whole_total, text_within, last_within, beyond_near}
+use Rattle.lists.specs.Listing.{printed, printed_with}
+use Rattle.steps.specs.Steps.{step_at}
+use Rattle.lists.proofs.listing.write_list.Goals as goal
+
+pub loop-left-init : goal.loop-left-init
+unfolding bytes
+loop-left-init c =
+    let a = c.args in
+    begin a.list.now c.write_text-n.new.0 c.write_text-n.result (omega (arith, c.write_text-n.auto.0, c.write_text-n.ensures.count))
+
+pub slice_bounds-take_step-count : goal.slice_bounds-take_step-count
+slice_bounds-take_step-count c = omega (arith, c.loop-left.invariant.room)
+
+pub slice_bounds-take_step-start : goal.slice_bounds-take_step-start
+slice_bounds-take_step-start c = omega (arith, c.loop-left.invariant.room)
+
+pub take_step-turn-requires : goal.take_step-turn-requires
+take_step-turn-requires c =
+    let g = c.loop-left.invariant in
+    (simp (length-take, length-drop) (omega (arith, g.room)), omega (arith, g.close), whole_total g.sum)
+
+pub overflow_add-n : goal.overflow_add-n
+overflow_add-n c =
+    let k = c.take_step-turn in
+    omega (arith, c.loop-left.invariant.room, k.ensures.0.count, text_within c.loop-left.total (step_at c.args.list.now c.loop-left.at))
+
+pub returns-then-turn : goal.returns-then-turn
+unfolding printed printed_with bytes
+returns-then-turn c =
+    let g = c.loop-left.invariant in
+    let a = c.args in
+    let k = c.take_step-turn in
+    finish_step a.list.now a.out.now _ c.write_text-n.new.0 c.write_text-n.result c.loop-left.out c.loop-left.n c.loop-left.at c.loop-left.total c.loop-left.left k.new.0 k.result.count
+    c.write_text-n.ensures c.write_text-n.auto.0 g (omega arith) (sym k.ensures.1.0 ∙ c.if-turn.true) k.ensures.0
+
+pub loop-left-preserved : goal.loop-left-preserved
+loop-left-preserved c =
+    let g = c.loop-left.invariant in
+    let a = c.args in
+    let k = c.take_step-turn in
+    let on = next a.list.now c.write_text-n.new.0 c.write_text-n.result c.loop-left.out c.loop-left.n c.loop-left.at c.loop-left.total c.loop-left.left k.new.0 k.result.count
+    g (omega arith) (sym k.ensures.1.0 ∙ c.if-turn.false) k.ensures.0 in
+    rw (k.ensures.1.1.0, k.ensures.1.1.1) on
+
+pub slice_bounds-write_last-count : goal.slice_bounds-write_last-count
+slice_bounds-write_last-count c = omega (arith, c.loop-left.invariant.room)
+
+pub slice_bounds-write_last-start : goal.slice_bounds-write_last-start
+slice_bounds-write_last-start c = omega (arith, c.loop-left.invariant.room)
+
+pub write_last-requires : goal.write_last-requires
+write_last-requires c =
+    let g = c.loop-left.invariant in
+    let a = c.args in
+    (simp (length-take, length-drop) (omega (arith, g.room)), rw c.beyond_at.ensures (omega (arith, g.close, beyond_near a.list.now c.loop-left.at)), whole_total g.sum)
+
+pub overflow_add-result : goal.overflow_add-result
+overflow_add-result c =
+    let k = c.write_last in
+    omega (arith, c.loop-left.invariant.room, k.ensures.count, last_within c.loop-left.total c.beyond_at.result)
+
+pub returns : goal.returns
+unfolding printed printed_with bytes
+returns c =
+    let g = c.loop-left.invariant in
+    let a = c.args in
+    let k = c.write_last in
+    finish_last a.list.now a.out.now _ c.write_text-n.new.0 c.write_text-n.result c.loop-left.out c.loop-left.n c.loop-left.at c.loop-left.total c.loop-left.left k.new.0 k.result
+    c.write_text-n.ensures c.write_text-n.auto.0 g (omega arith) (rw (← c.beyond_at.ensures) k.ensures)

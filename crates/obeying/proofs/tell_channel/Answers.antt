@@ -1,0 +1,21 @@
+-- `obeying::tell_channel` meets its contract. Assumes nothing.
+use Rattle.commands.specs.Answers.{answer}
+use Rattle.commands.specs.Changing.{changed}
+use Rattle.obeying.specs.Taking.{obeyed}
+use Rattle.obeying.proofs.TakingLaws.{setup_sound}
+use Rattle.table.proofs.TableLaws.{sound_length, sound_motor_at}
+use borrow.Author.Rules.{rules}
+use Rattle.obeying.proofs.tell_channel.Goals as goal
+
+pub read_head-h-requires : goal.read_head-h-requires
+read_head-h-requires c = sound_length _ c.requires.0
+
+pub motor_at-requires : goal.motor_at-requires
+motor_at-requires c = (sound_length _ c.requires.0, c.requires.2)
+
+pub write_question-count-requires : goal.write_question-count-requires
+write_question-count-requires c = let s = sound_motor_at _ _ c.requires.0 c.requires.2 in (c.requires.1, (c.requires.2, rw c.motor_at.ensures (setup_sound _ s)))
+
+pub returns : goal.returns
+unfolding obeyed changed answer
+returns c = rw (c.result_of.ensures, c.write_question-count.ensures.0.count, c.write_question-count.ensures.0.buffer, c.motor_at.ensures, c.read_head-h.ensures)

@@ -1,0 +1,14 @@
+-- `obeying::tell_head` meets its contract. Assumes nothing.
+use Rattle.commands.specs.Answers.{answer}
+use Rattle.commands.specs.Changing.{changed}
+use Rattle.obeying.specs.Taking.{obeyed}
+use Rattle.table.proofs.TableLaws.{sound_length}
+use borrow.Author.Rules.{rules}
+use Rattle.obeying.proofs.tell_head.Goals as goal
+
+pub read_head-requires : goal.read_head-requires
+read_head-requires c = sound_length _ c.requires.0
+
+pub returns : goal.returns
+unfolding obeyed changed answer
+returns c = rw (c.result_of.ensures, c.write_head_question-count.ensures.0.count, c.write_head_question-count.ensures.0.buffer, c.read_head.ensures)

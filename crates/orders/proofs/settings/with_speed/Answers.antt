@@ -1,0 +1,6 @@
+-- `orders::settings::with_speed` meets its contract. Assumes nothing.
+use borrow.Author.Rules.{rules}
+use Rattle.orders.proofs.settings.with_speed.Goals as goal
+
+pub returns : goal.returns
+returns c = rw (c.choose-3.ensures, c.choose-2.ensures, c.choose.ensures)

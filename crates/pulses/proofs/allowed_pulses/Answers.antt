@@ -1,0 +1,7 @@
+-- `pulses::allowed_pulses` meets its contract. Assumes nothing.
+use borrow.Author.Rules.{rules}
+use Rattle.pulses.proofs.allowed_pulses.Goals as goal
+
+pub returns : goal.returns
+returns c =
+    rw (c.choose.ensures, c.smaller.ensures, c.distance_left-left.ensures, c.room_of-room.ensures, c.requires)

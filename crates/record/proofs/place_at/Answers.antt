@@ -1,0 +1,6 @@
+-- `record::place_at` meets its contract. Assumes nothing.
+use borrow.Author.Rules.{rules}
+use Rattle.record.proofs.place_at.Goals as goal
+
+pub returns : goal.returns
+returns c = rw (c.place_of.ensures, c.long_at.ensures)

@@ -1,0 +1,6 @@
+-- `record::put_place` meets its contract. Assumes nothing.
+use borrow.Author.Rules.{rules}
+use Rattle.record.proofs.put_place.Goals as goal
+
+pub returns : goal.returns
+returns c = rw (c.put_long.ensures, c.word_of.ensures)

@@ -1,0 +1,6 @@
+-- `record::read_limits` meets its contract. Assumes nothing.
+use borrow.Author.Rules.{rules}
+use Rattle.record.proofs.read_limits.Goals as goal
+
+pub returns : goal.returns
+returns c = rw (c.place_at-2.ensures, c.place_at.ensures)

@@ -1,0 +1,14 @@
+-- `running::renew` meets its contract. Assumes nothing.
+use mathlib.Core.Path.{◌≡◌, refl, sym}
+use borrow.Author.Rules.{rules}
+use Rattle.urqolina.specs.Calls.{fresh_call}
+use Rattle.running.specs.Running.{renewed}
+use Rattle.running.proofs.renew.Goals as goal
+
+pub returns : goal.returns
+unfolding renewed
+returns c =
+    let r = c.urqolina_fresh-result in
+    let a = c.args in
+    let done : fresh_call a.table.now 1 ≡ record { result = r.result; table = r.new.0 } = sym r.ensures in
+    rw done (record { table = refl; text = c.write_number.ensures })

@@ -1,0 +1,6 @@
+-- `steps::reading::aim_fault` meets its contract. Assumes nothing.
+use borrow.Author.Rules.{rules}
+use Rattle.steps.proofs.reading.aim_fault.Goals as goal
+
+pub returns-in-Point : goal.returns-in-Point
+returns-in-Point c = cc

@@ -1,0 +1,29 @@
+-- `urqolina::ticking::drive_channel` meets its contract. Assumes nothing.
+use mathlib.Core.Path.{◌≡◌}
+use mathlib.Core.Bool.{true}
+use borrow.Author.Rules.{rules}
+use Rattle.motor.specs.Sound.{busy}
+use Rattle.motor.proofs.MovingLaws.{moving_busy}
+use Rattle.motor.proofs.RecordLaws.{sound_written_read}
+use Rattle.pulses.specs.Ticks.{tick_count}
+use Rattle.pulses.proofs.TickRecord.{tick_written}
+use Rattle.pulses.proofs.TickSound.{tick_sound}
+use Rattle.table.specs.Layout.{motor_at}
+use Rattle.urqolina.proofs.ticking.drive_channel.Goals as goal
+
+pub put_ticked-requires : goal.put_ticked-requires
+unfolding motor_at
+put_ticked-requires c =
+    let t = c.args.t.now in
+    let m = c.args.m in
+    let held : motor_at t c.args.c ≡ m = rw c.requires.1.0 (sound_written_read m c.requires.1.2) in
+    let on : busy (motor_at t c.args.c) ≡ true = rw held (moving_busy m c.requires.1.1) in
+    ((c.requires.0.0, c.requires.0.2, c.requires.0.3, on), (rw (c.tick-after.ensures, c.requires.1.0) (tick_written m c.requires.1.1), rw c.tick-after.ensures (tick_sound m c.requires.1.2)))
+
+pub returns : goal.returns
+unfolding tick_count
+returns c =
+    (
+      rw (c.put_ticked.ensures, c.tick-after.ensures),
+      rw (c.put_long.ensures, c.count_of.ensures, c.tick-after.ensures),
+    )

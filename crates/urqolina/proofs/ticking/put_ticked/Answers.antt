@@ -1,0 +1,26 @@
+-- `urqolina::ticking::put_ticked` meets its contract. Assumes nothing.
+use mathlib.Core.Path.{◌≡◌, sym, ◌∙◌}
+use mathlib.Core.Bool.{true}
+use borrow.Author.Tests.{ne_eqb}
+use borrow.Author.Rules.{rules}
+use Rattle.record.specs.Record.{record_of}
+use Rattle.record.proofs.RoundTrip.{record_length}
+use Rattle.motor.specs.Sound.{busy}
+use Rattle.table.specs.Layout.{with_motor}
+use Rattle.table.proofs.SealLaws.{marked_sealed}
+use Rattle.table.proofs.KeptLaws.{motor_unmarked}
+use Rattle.urqolina.proofs.ticking.put_ticked.Goals as goal
+
+pub returns-then-m-eq0 : goal.returns-then-m-eq0
+unfolding with_motor
+returns-then-m-eq0 c =
+    let m = c.args.m in
+    rw (c.mark_at.ensures, c.put_progress.ensures, c.requires.1.0)
+    (marked_sealed c.args.t.now c.args.c (record_of m) c.requires.0.0 c.requires.0.1 (record_length m) c.requires.0.2)
+
+pub returns-else-m-eq0 : goal.returns-else-m-eq0
+returns-else-m-eq0 c =
+    let m = c.args.m in
+    let on : busy m ≡ true = rw (ne_eqb _ _ c.if-m-eq0.false) in
+    rw (c.put_progress.ensures, c.requires.1.0)
+    (motor_unmarked c.args.t.now c.args.c m c.requires.0.0 c.requires.0.1 c.requires.0.2 c.requires.1.1 (on ∙ sym c.requires.0.3))

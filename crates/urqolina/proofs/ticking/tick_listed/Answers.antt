@@ -1,0 +1,18 @@
+-- `urqolina::ticking::tick_listed` meets its contract. Assumes nothing.
+use mathlib.Core.Path.{◌≡◌, sym, ◌∙◌}
+use mathlib.Core.Bool.{false}
+use borrow.Author.Rules.{rules}
+use Rattle.motor.specs.Sound.{moving}
+use Rattle.motor.proofs.MovingLaws.{idle_still}
+use Rattle.table.specs.Layout.{motor_at}
+use Rattle.urqolina.proofs.RestLaws.{idle_table, idle_count}
+use Rattle.urqolina.proofs.ticking.tick_listed.Goals as goal
+
+pub returns-else-listed : goal.returns-else-listed
+returns-else-listed c =
+    let t = c.args.t.now in
+    let x = c.args.c in
+    let still : moving (motor_at t x) ≡ false = idle_still (motor_at t x) (sym c.requires.1.2 ∙ c.if-listed.false) in (
+      sym (idle_table t x c.requires.0.0 c.requires.0.2 c.requires.0.3 c.requires.1.0 (λ j. (c.type_inv.t j).fits) still),
+      sym (idle_count c.args.pulses.now x (motor_at t x) c.requires.0.1 c.requires.0.2 c.requires.1.1 still),
+    )
