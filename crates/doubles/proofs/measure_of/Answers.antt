@@ -40,4 +40,4 @@ float_to_bits-x c =
 pub returns : goal.returns
 returns c =
     let x = c.args.x in
-    c.measure_bits.ensures ∙ ap measure_of (of_bits-to_bits binary64 x (subst T (sym c.well-formed.0.1) tt))
+    c.measure_bits.ensures ∙ ap measure_of (of_bits-to_bits binary64 x (subst T (sym c.well_formed.0.1) tt))

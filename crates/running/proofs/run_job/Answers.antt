@@ -16,8 +16,7 @@ slice_bounds-send-start c = omega (arith, send_two _ c.args.line.now (sym c.job_
 
 pub wait_line-requires : goal.wait_line-requires
 wait_line-requires c =
-    let v = c.n-1.given in
-    (waits_few _ c.args.line.now v.0.0 (sym c.job_of.ensures ∙ v.1), c.requires)
+    (waits_few _ c.args.line.now c.in-Wait.n (sym c.job_of.ensures ∙ c.in-Wait.is), c.requires)
 
 pub returns-in-Send : goal.returns-in-Send
 returns-in-Send c =

@@ -12,4 +12,4 @@ unfolding count_of
 returns c =
     let a = c.args in
     let w = c.wrapping_sub_u32 in
-    cc (less_word w.result a.n w.ensures (omega arith) (omega arith))
+    cc (less_word w.result a.n w.ensures.value (omega arith) (omega arith))

@@ -12,27 +12,23 @@ use Rattle.jobs.proofs.reading.wait_of.Goals as goal
 
 pub bounds-s-0 : goal.bounds-s-0
 bounds-s-0 c =
-    let v = c.value-1.given in
     let s = c.args.s.now in
-    let p = read_parts s v.0.0 v.0.1.0 (sym c.number_at.ensures ∙ v.1) in
+    let p = read_parts s c.in-Read.value c.in-Read.count (sym c.number_at.ensures ∙ c.in-Read.is) in
     omega (arith, p.1, p.2, digits_within s)
 
 pub overflow_cast-result : goal.overflow_cast-result
 overflow_cast-result c =
-    let v = c.value-1.given.0 in
     let s = c.args.s.now in
-    let h : v.0 ≤ 10000 = ticks_within (eqb v.1.0 (length s) && leb v.1.0 5) (get_or s 0 0) v.0 (rw c.is_ticks.ensures at c.if-count-s.true) in
+    let h : c.in-Read.value ≤ 10000 = ticks_within (eqb c.in-Read.count (length s) && leb c.in-Read.count 5) (get_or s 0 0) c.in-Read.value (rw c.is_ticks.ensures at c.if-count-s.true) in
     omega arith
 
 pub returns-then-count-s : goal.returns-then-count-s
 returns-then-count-s c =
-    let v = c.value-1.given in
-    rw (wait_read c.args.s.now v.0.0 v.0.1.0 (sym c.number_at.ensures ∙ v.1), ← c.is_ticks.ensures, c.if-count-s.true)
+    rw (wait_read c.args.s.now c.in-Read.value c.in-Read.count (sym c.number_at.ensures ∙ c.in-Read.is), ← c.is_ticks.ensures, c.if-count-s.true)
 
 pub returns-else-count-s : goal.returns-else-count-s
 returns-else-count-s c =
-    let v = c.value-1.given in
-    rw (wait_read c.args.s.now v.0.0 v.0.1.0 (sym c.number_at.ensures ∙ v.1), ← c.is_ticks.ensures, c.if-count-s.false)
+    rw (wait_read c.args.s.now c.in-Read.value c.in-Read.count (sym c.number_at.ensures ∙ c.in-Read.is), ← c.is_ticks.ensures, c.if-count-s.false)
 
 pub returns-in-Nothing : goal.returns-in-Nothing
 returns-in-Nothing c =

@@ -10,4 +10,4 @@ unfolding asks_on
 returns-in-AskFree c = rw c.in-AskFree.is
 
 pub returns-in_default : goal.returns-in_default
-returns-in_default c = sym (asked_both c.args.card c.args.q c.in_default.keys2)
+returns-in_default c = sym (asked_both c.args.card c.args.q c.in_default.not-AskFree)

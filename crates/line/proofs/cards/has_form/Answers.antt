@@ -10,4 +10,4 @@ unfolding has_form
 returns-in-AskHead c = rw c.in-AskHead.is c.asks_on.ensures
 
 pub returns-in_default : goal.returns-in_default
-returns-in_default c = sym (formed_both c.args.card c.args.o c.in_default.keys2)
+returns-in_default c = sym (formed_both c.args.card c.args.o c.in_default.not-AskHead)

@@ -9,8 +9,7 @@ use Rattle.line.proofs.field_reading.number_from.Goals as goal
 pub overflow_add-result : goal.overflow_add-result
 overflow_add-result c =
     let a = c.args in
-    let n = c.value-1.given in
-    omega (arith, number_there a.s.now a.at n.0.0 n.0.1.0 (sym c.number_at.ensures ∙ n.1))
+    omega (arith, number_there a.s.now a.at c.in-Read.value c.in-Read.count (sym c.number_at.ensures ∙ c.in-Read.is))
 
 pub returns-in-Read : goal.returns-in-Read
 unfolding read_number

@@ -2,21 +2,22 @@
 use mathlib.Core.Path.{sym, ◌∙◌}
 use native.Mathlib.Omega.{arith}
 use borrow.Author.Tests.{eq-eqb, ne_eqb}
-use Prim.Native.Nat.{◌+◌, ◌≤◌}
+use Prim.Native.Nat.{ℕ, ◌+◌, ◌≤◌}
+use mathlib.Core.Path.{◌≡◌}
+use mathlib.Core.Bool.{true}
+use mathlib.Core.List.{List}
+use lib.Dec.{eqb}
 use lib.ListN.{length}
 use Rattle.steps.proofs.FieldLaws.{framed_byte, framed_double, framed_some}
-use Rattle.steps.specs.Fields.{tag_at, channel_at}
+use Rattle.steps.specs.Fields.{tag_at, channel_at, frame_fault}
 use Rattle.steps.specs.Steps.{opening_at}
 use borrow.Author.Rules.{rules}
 use Rattle.steps.proofs.reading.opening_at.Goals as goal
 
 -- of a channel's field
-byte_there : (c : tie.Then2) → c.before.before.before.before.before.args.at + 4 ≤ length c.before.before.before.before.before.args.list.now
+byte_there : (s : List ℕ) (at b f : ℕ) → f ≡ frame_fault 1 5 s at → f ≡ 0 → b ≡ tag_at s at → b ≡ 1 → at + 4 ≤ length s
 unfolding tag_at
-byte_there c =
-    let t = c.before.before in
-    let a = t.before.before.before.args in
-    framed_byte 1 5 a.list.now a.at (sym t.before.frame-fault.ensures ∙ t.if1.true) (sym c.before.byte_at.ensures ∙ c.if2.true)
+byte_there s at b f e z g o = framed_byte 1 5 s at (sym e ∙ z) (sym g ∙ o)
 
 pub byte_at-requires : goal.byte_at-requires
 byte_at-requires c =
@@ -24,10 +25,12 @@ byte_at-requires c =
     omega (arith, framed_some 1 5 a.list.now a.at (sym c.frame_fault-fault.ensures ∙ c.if-fault-eq0.true))
 
 pub overflow_add-at : goal.overflow_add-at
-overflow_add-at c = omega (arith, byte_there c)
+unfolding tag_at
+overflow_add-at c = omega (arith, byte_there c.args.list.now c.args.at _ _ c.frame_fault-fault.ensures c.if-fault-eq0.true c.byte_at.ensures c.if-byte_at-eq1.true)
 
 pub byte_at-requires-then-byte_at-eq1 : goal.byte_at-requires-then-byte_at-eq1
-byte_at-requires-then-byte_at-eq1 c = omega (arith, byte_there c)
+unfolding tag_at
+byte_at-requires-then-byte_at-eq1 c = omega (arith, byte_there c.args.list.now c.args.at _ _ c.frame_fault-fault.ensures c.if-fault-eq0.true c.byte_at.ensures c.if-byte_at-eq1.true)
 
 pub double_at-requires : goal.double_at-requires
 unfolding tag_at

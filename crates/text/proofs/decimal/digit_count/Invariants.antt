@@ -1,14 +1,7 @@
 -- `text::decimal::digit_count` meets its contract. The invariant: none of the powers tried is above n. Assumes nothing.
-use lib.Dec.{leb}
-use borrow.Author.Tests.{le-leb}
-use native.Mathlib.Omega.{arith}
-use mathlib.Core.Path.{◌≡◌, refl}
-use mathlib.Core.Bool.{true}
-use Prim.Native.Nat.{suc, ◌+◌, ◌-◌, ◌^◌, ◌<◌, ◌≤◌}
-use native.Mathlib.Nat.{pow-succ', pow-le-pow_right}
-use native.Mathlib.Numerals.{add-one}
-use Rattle.text.specs.Text.{powers_up_to, digit_count}
-use Rattle.text.proofs.TextLaws.{powers_more, powers_end}
+use mathlib.Core.Path.{◌≡◌}
+use Prim.Native.Nat.{suc, ◌-◌, ◌^◌, ◌≤◌}
+use Rattle.text.specs.Text.{powers_up_to}
 use Rattle.text.proofs.decimal.digit_count.Given as goal
 
 abbrev pub invariant-loop-k : goal.invariant-loop-k

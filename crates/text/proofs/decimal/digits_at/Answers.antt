@@ -1,11 +1,7 @@
 -- `text::decimal::digits_at` meets its contract. The invariant: the digits passed, and those that stand from
 -- there on, are all. Assumes nothing.
-use borrow.Author.Rules.{rules}
 use native.Mathlib.Omega.{arith}
-use mathlib.Core.Path.{◌≡◌, sym, ◌∙◌}
-use Prim.Native.Nat.{◌+◌, ◌-◌, ◌≤◌}
-use lib.ListN.{length, drop}
-use Rattle.text.specs.Text.{digits_at_front}
+use mathlib.Core.Path.{sym, ◌∙◌}
 use Rattle.text.proofs.TextLaws.{digits_more, digits_none, digits_past}
 use Rattle.text.proofs.decimal.digits_at.Goals as goal
 

@@ -1,7 +1,6 @@
 -- `text::decimal::distance_of` meets its contract. Assumes nothing.
 use native.Mathlib.Omega.{arith}
 use borrow.Author.Tests.{le-leb, lt-leb}
-use borrow.Author.Rules.{rules}
 use Rattle.digits.specs.Places.{origin}
 use Rattle.text.proofs.decimal.distance_of.Goals as goal
 

@@ -1,7 +1,6 @@
 -- `text::decimal::number_at` meets its contract. Assumes nothing.
 use Rattle.text.specs.Text.{number_at_front}
 use Rattle.text.proofs.TextLaws.{between}
-use borrow.Author.Rules.{rules}
 use Rattle.text.proofs.decimal.number_at.Goals as goal
 
 pub returns-then-n : goal.returns-then-n

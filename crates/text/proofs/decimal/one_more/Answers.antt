@@ -1,6 +1,5 @@
 -- `text::decimal::one_more` meets its contract. Assumes nothing.
 use borrow.Author.Tests.{lt-ltb, le-ltb}
-use borrow.Author.Rules.{rules}
 use Rattle.text.proofs.decimal.one_more.Goals as goal
 
 pub returns-then-v-lt10000000000 : goal.returns-then-v-lt10000000000

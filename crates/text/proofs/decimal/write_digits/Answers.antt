@@ -1,12 +1,10 @@
 -- `text::decimal::write_digits` meets its contract. The invariant: the digits from place i on are put, and what is
 -- left of n is to be written before them. Assumes nothing.
-use borrow.Author.Rules.{rules}
 use native.Mathlib.Omega.{arith}
 use mathlib.Core.Path.{◌≡◌, refl, sym}
 use native.Mathlib.Nat.{div-one, sub-zero}
-use Prim.Native.Nat.{suc, ◌-◌, ◌/◌, ◌^◌, ◌≤◌}
-use lib.ListN.{length, length-set}
-use Rattle.digits.specs.Bytes.{put}
+use Prim.Native.Nat.{suc, ◌-◌}
+use lib.ListN.{length-set}
 use Rattle.text.specs.Text.{last_digits}
 use Rattle.digits.proofs.PutLaws.{put_none}
 use Rattle.text.proofs.TextLaws.{quotient_more, written_more}

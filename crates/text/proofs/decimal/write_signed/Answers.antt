@@ -1,7 +1,8 @@
 -- `text::decimal::write_signed` meets its contract: the sign is written first, and what the part after it is left with is put
 -- after the sign. Assumes nothing.
 use mathlib.Core.Path.{◌≡◌, ◌∙◌}
-use Prim.Native.Nat.{◌+◌, ◌-◌, ◌≤◌}
+use Prim.Native.Nat.{ℕ, ◌+◌, ◌-◌, ◌≤◌}
+use mathlib.Core.List.{List}
 use native.Mathlib.Omega.{arith}
 use lib.ListN.{length, set, length-set, length-take, length-drop}
 use borrow.Author.Rules.{rules}
@@ -12,32 +13,26 @@ use Rattle.text.proofs.TextLaws.{length_signed}
 use Rattle.text.proofs.decimal.write_signed.Goals as goal
 
 -- there is room for the sign and the digits
-room : (c : tie.Start) → 1 + length (decimal c.args.least (distance c.args.place)) ≤ length c.args.out.now
-room c = omega (arith, length_signed c.args.least c.args.place)
-
--- the digits that were counted are those of the distance
-counted : (c : tie.After-write-decimal)
-    → c.write-decimal.result
-    ≡ length (decimal c.before.before.before.before.before.args.least (distance c.before.before.before.before.before.args.place))
-counted c = rw c.before.distance-of.ensures at c.write-decimal.ensures.count
+room : (o : List ℕ) (least place : ℕ) → length (signed_decimal least place) ≤ length o → 1 + length (decimal least (distance place)) ≤ length o
+room o least place h = omega (arith, length_signed least place)
 
 pub bounds-out-0 : goal.bounds-out-0
-bounds-out-0 c = omega (arith, room c)
+bounds-out-0 c = omega (arith, room c.args.out.now c.args.least c.args.place c.requires)
 
 pub slice_bounds-write_decimal-count : goal.slice_bounds-write_decimal-count
-slice_bounds-write_decimal-count c = simp length-set (omega (arith, room c))
+slice_bounds-write_decimal-count c = simp length-set (omega (arith, room c.args.out.now c.args.least c.args.place c.requires))
 
 pub slice_bounds-write_decimal-start : goal.slice_bounds-write_decimal-start
-slice_bounds-write_decimal-start c = simp length-set (omega (arith, room c))
+slice_bounds-write_decimal-start c = simp length-set (omega (arith, room c.args.out.now c.args.least c.args.place c.requires))
 
 pub write_decimal-requires : goal.write_decimal-requires
 write_decimal-requires c =
     rw c.distance_of.ensures
-    (simp (length-take, length-drop, length-set) (omega (arith, room c)))
+    (simp (length-take, length-drop, length-set) (omega (arith, room c.args.out.now c.args.least c.args.place c.requires)))
 
 pub overflow_add-result : goal.overflow_add-result
 overflow_add-result c =
-    omega (arith, counted c, room c)
+    omega (arith, rw c.distance_of.ensures at c.write_decimal.ensures.count, room c.args.out.now c.args.least c.args.place c.requires)
 
 pub returns : goal.returns
 unfolding signed_decimal
@@ -45,9 +40,9 @@ returns c =
     let a = c.args in
     let signed = set a.out.now 0 c.sign_of.result in
     let digits = decimal a.least (distance a.place) in
-    let fits : 1 + length digits ≤ length signed = simp length-set (room c) in
+    let fits : 1 + length digits ≤ length signed = simp length-set (room c.args.out.now c.args.least c.args.place c.requires) in
     record {
-      count = rw length_signed (omega (arith, counted c));
+      count = rw length_signed (omega (arith, rw c.distance_of.ensures at c.write_decimal.ensures.count));
       buffer =
           rw (
             c.write_decimal.ensures.buffer,
@@ -55,5 +50,5 @@ returns c =
             put_rest signed digits 1 fits,
             c.sign_of.ensures,
           )
-          (put_front a.out.now digits (sign_byte a.place) (omega (arith, room c)));
+          (put_front a.out.now digits (sign_byte a.place) (omega (arith, room c.args.out.now c.args.least c.args.place c.requires)));
     }

@@ -1,7 +1,6 @@
 -- `text::hex::hex_digit` meets its contract. Assumes nothing.
 use borrow.Author.Tests.{lt-ltb, le-ltb}
 use Rattle.text.specs.Text.{hex_digit}
-use borrow.Author.Rules.{rules}
 use Rattle.text.proofs.hex.hex_digit.Goals as goal
 
 pub returns-then-d-lt10 : goal.returns-then-d-lt10

@@ -4,7 +4,6 @@ use Prim.Native.Nat.{◌/◌, ◌%◌}
 use native.Mathlib.Omega.{arith}
 use Rattle.text.specs.Text.{hex_byte}
 use Rattle.digits.proofs.PutLaws.{stores_put}
-use borrow.Author.Rules.{rules}
 use Rattle.text.proofs.hex.write_hex.Goals as goal
 
 pub returns : goal.returns

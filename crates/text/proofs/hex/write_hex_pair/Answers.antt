@@ -2,7 +2,6 @@
 use mathlib.Core.Path.{◌≡◌}
 use native.Mathlib.Omega.{arith}
 use lib.ListN.{length}
-use borrow.Author.Rules.{rules}
 use Rattle.digits.specs.Bytes.{put}
 use Rattle.digits.proofs.PutLaws.{put_after, put_rest, put_length}
 use Rattle.text.specs.Text.{hex_byte}

@@ -1,5 +1,4 @@
 -- `text::hex::write_hex_word` meets its contract. Assumes nothing.
-use borrow.Author.Rules.{rules}
 use Rattle.text.specs.Text.{hex_word}
 use Rattle.text.proofs.hex.write_hex_word.Goals as goal
 

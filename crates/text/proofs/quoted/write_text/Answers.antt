@@ -1,11 +1,10 @@
 -- `text::quoted::write_text` meets its contract. The invariant: the first i bytes of the text are copied. Assumes nothing.
 use mathlib.Core.Path.{◌≡◌, refl}
-use Prim.Native.Nat.{◌-◌, ◌≤◌}
 use native.Mathlib.Nat.{zero-add}
 use native.Mathlib.Numerals.{add-one}
 use native.Mathlib.Omega.{arith}
 use lib.ListN.{length, length-set}
-use lib.Seq.{paste, paste-zero, paste-suc, take-length}
+use lib.Seq.{paste-zero, paste-suc, take-length}
 use Rattle.digits.specs.Bytes.{put}
 use Rattle.text.proofs.quoted.write_text.Goals as goal
 

@@ -1,12 +1,8 @@
 -- `text::quoted::write_text` meets its contract. The invariant: the first i bytes of the text are copied. Assumes nothing.
-use mathlib.Core.Path.{◌≡◌, refl}
+use mathlib.Core.Path.{◌≡◌}
 use Prim.Native.Nat.{◌-◌, ◌≤◌}
-use native.Mathlib.Nat.{zero-add}
-use native.Mathlib.Numerals.{add-one}
-use native.Mathlib.Omega.{arith}
-use lib.ListN.{length, length-set}
-use lib.Seq.{paste, paste-zero, paste-suc, take-length}
-use Rattle.digits.specs.Bytes.{put}
+use lib.ListN.{length}
+use lib.Seq.{paste}
 use Rattle.text.proofs.quoted.write_text.Given as goal
 
 abbrev pub invariant-loop-i : goal.invariant-loop-i
