@@ -1,16 +1,15 @@
 -- The channel that an order of a line names is one of the sixteen. Assumes nothing.
 use mathlib.Core.Path.{◌≡◌, refl}
-use mathlib.Core.List.{List, [], ◌∷◌}
+use mathlib.Core.List.{List}
 use mathlib.Core.Bool.{Bool, true, cond}
-use types.Run.{OneOf, miss}
-use denote.Enum.Declared.{tag_of}
 use Prim.Native.Nat.{ℕ, ◌≤◌}
 use native.Mathlib.Omega.{arith}
 use borrow.Author.Tests.{leb-true}
 use Rattle.motor.proofs.SoundLaws.{and_l}
 use Rattle.line.specs.declared.Order.{Order}
+use Rattle.line.specs.declared.Start.{Start}
+use Rattle.line.specs.declared.Setting.{Setting}
 use Rattle.line.specs.declared.Order.TheVariants.{Go, Stop, StopAll, ChangeSpeed, Set, Ask, AskHead, ForHead}
-use Rattle.line.specs.contracts.Order as T
 use Rattle.drive.specs.declared.Verdict.TheVariants.{Busy, Done}
 use Rattle.commands.specs.Judging.{meets_busy, judge_motor}
 use Rattle.line.specs.Made.{on_bench, start_made, end_flag, setting_made, order_made}
@@ -37,18 +36,16 @@ named_channel (Ask x q) h = leb-true x 15 h
 named_channel (AskHead q) h = omega arith
 named_channel (ForHead o) h = omega arith
 
--- the orders that name no channel to judge: stops, reads and those of the head, by where they stand among the orders
-abbrev pub unjudged : List ℕ
-unjudged = 1 ∷ 2 ∷ 5 ∷ 6 ∷ 7 ∷ []
-
--- They are never busy, and nothing of a motor refuses them.
-pub others_done : (full : Bool) (t : List ℕ) (o : Order) → OneOf unjudged (tag_of T.the_type o) → cond (meets_busy t o) Busy (judge_motor full t o) ≡ Done
+-- The orders that name no channel to judge, stops, reads and those of the head, are never busy, and nothing of a motor refuses them.
+pub others_done : (full : Bool) (t : List ℕ) (o : Order)
+    → ((x : ℕ) (s : Start) → o ≡ Go x s → ⊥) → ((x : ℕ) (v : ℕ) → o ≡ ChangeSpeed x v → ⊥) → ((x : ℕ) (s : Setting) → o ≡ Set x s → ⊥)
+    → cond (meets_busy t o) Busy (judge_motor full t o) ≡ Done
 unfolding meets_busy judge_motor
-others_done full t (Go x s) h = absurd (miss unjudged 0 tt h)
-others_done full t (Stop x flags) h = refl
-others_done full t (StopAll flags) h = refl
-others_done full t (ChangeSpeed x v) h = absurd (miss unjudged 3 tt h)
-others_done full t (Set x s) h = absurd (miss unjudged 4 tt h)
-others_done full t (Ask x q) h = refl
-others_done full t (AskHead q) h = refl
-others_done full t (ForHead o) h = refl
+others_done full t (Go x s) a b d = absurd (a x s refl)
+others_done full t (Stop x flags) a b d = refl
+others_done full t (StopAll flags) a b d = refl
+others_done full t (ChangeSpeed x v) a b d = absurd (b x v refl)
+others_done full t (Set x s) a b d = absurd (d x s refl)
+others_done full t (Ask x q) a b d = refl
+others_done full t (AskHead q) a b d = refl
+others_done full t (ForHead o) a b d = refl

@@ -1,4 +1,3 @@
 pub mod LetterLaws
 pub mod FindingLaws
-pub mod Held
 pub mod Cases

@@ -90,5 +90,5 @@ question_within k x m AskMotor = omega arith
 question_within k x m AskStatus = status_within k x m
 
 -- So what is written has the length that its writer promises.
-pub short : {s t b : List ℕ} {r : ℕ} → length b ≤ 17 → Wrote s t b r → Wrote s t b r × (r ≤ 32)
-short h w = (w, omega (arith, w.count))
+pub short : {s t b : List ℕ} {r : ℕ} → length b ≤ 17 → Wrote s t b r → record { wrote : Wrote s t b r; upper_bound : r ≤ 32 }
+short h w = record { wrote = w; upper_bound = omega (arith, w.count) }

@@ -13,7 +13,7 @@ use Rattle.text.proofs.TextLaws.{signed_within}
 use Rattle.record.specs.declared.Motor.{Motor}
 use Rattle.motor.specs.Switches.{unread}
 use Rattle.motor.specs.Sound.{busy}
-use Rattle.status.specs.Status.{position_text, flag_if, switch_bits, status_v, status_hH, mode_letter, going_letter, status_text}
+use Rattle.status.specs.Status.{position_text, flag_if, switch_bits, status_v, status_hh, mode_letter, going_letter, status_text}
 
 -- A position takes at most a sign and ten digits.
 pub position_within : (p : ℕ) → length (position_text p) ≤ 11
@@ -21,13 +21,13 @@ position_within p = signed_within 7 p (omega arith)
 
 -- The letters, the flags and the position, written one after the other, are the status.
 pub status_put : (t : List ℕ) (k x : ℕ) (m : Motor) → 32 ≤ length t
-    → put (put (put t 0 (mode_letter k ∷ hex_digit x ∷ going_letter m ∷ [])) 3 (hex_digit (status_v m) ∷ hex_byte (status_hH m))) 6
+    → put (put (put t 0 (mode_letter k ∷ hex_digit x ∷ going_letter m ∷ [])) 3 (hex_digit (status_v m) ∷ hex_byte (status_hh m))) 6
     (position_text m.place)
     ≡ put t 0 (status_text k x m)
 unfolding status_text hex_byte joined
 status_put t k x m h =
     let letters = mode_letter k ∷ hex_digit x ∷ going_letter m ∷ [] in
-    let flags = hex_digit (status_v m) ∷ hex_byte (status_hH m) in
+    let flags = hex_digit (status_v m) ∷ hex_byte (status_hh m) in
     rw append-nil at
     (lay_put (letters ∷ flags ∷ position_text m.place ∷ []) t 0
     (omega (arith, length-append (position_text m.place) [], position_within m.place)))

@@ -10,4 +10,4 @@ pub read_head-h-requires : goal.read_head-h-requires
 read_head-h-requires c = search (rules, sound_length _ c.requires.0)
 
 pub returns : goal.returns
-returns c = rw (c.result_of.ensures, c.write_echo-count.ensures.0.count, c.write_echo-count.ensures.0.buffer, c.read_head-h.ensures, c.change.ensures)
+returns c = rw (c.result_of.ensures, c.write_echo-count.ensures.wrote.count, c.write_echo-count.ensures.wrote.buffer, c.read_head-h.ensures, c.change.ensures)

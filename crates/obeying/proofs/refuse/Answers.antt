@@ -13,4 +13,4 @@ read_head-h-requires c = search (rules, sound_length _ c.requires.0)
 
 pub returns : goal.returns
 unfolding refused
-returns c = rw (c.result_of.ensures, c.write_echo-count.ensures.0.count, c.write_echo-count.ensures.0.buffer, c.read_head-h.ensures, c.set_flag.ensures)
+returns c = rw (c.result_of.ensures, c.write_echo-count.ensures.wrote.count, c.write_echo-count.ensures.wrote.buffer, c.read_head-h.ensures, c.set_flag.ensures)

@@ -18,4 +18,4 @@ write_question-count-requires c = let s = sound_motor_at _ _ c.requires.0 c.requ
 
 pub returns : goal.returns
 unfolding obeyed changed answer
-returns c = rw (c.result_of.ensures, c.write_question-count.ensures.0.count, c.write_question-count.ensures.0.buffer, c.motor_at.ensures, c.read_head-h.ensures)
+returns c = rw (c.result_of.ensures, c.write_question-count.ensures.wrote.count, c.write_question-count.ensures.wrote.buffer, c.motor_at.ensures, c.read_head-h.ensures)

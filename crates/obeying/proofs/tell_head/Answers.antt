@@ -11,4 +11,4 @@ read_head-requires c = sound_length _ c.requires.0
 
 pub returns : goal.returns
 unfolding obeyed changed answer
-returns c = rw (c.result_of.ensures, c.write_head_question-count.ensures.0.count, c.write_head_question-count.ensures.0.buffer, c.read_head.ensures)
+returns c = rw (c.result_of.ensures, c.write_head_question-count.ensures.wrote.count, c.write_head_question-count.ensures.wrote.buffer, c.read_head.ensures)

@@ -10,18 +10,14 @@ use Rattle.replies.specs.Replies.{echo}
 use Rattle.replies.proofs.ReplyLaws.{short, wrote_none, echo_within}
 use Rattle.replies.proofs.write_echo.Goals as goal
 
--- what is answered is short
-within : (c : tie.Start) → length (echo c.args.all c.args.v) ≤ 17
-within c = echo_within c.args.all c.args.v
-
 pub returns-then-all-eq1 : goal.returns-then-all-eq1
 unfolding echo
 returns-then-all-eq1 c =
     let on : eqb c.args.all 1 ≡ true = eq-eqb _ _ c.if-all-eq1.true in
-    short (within c) (rw on c.write_verdict.ensures)
+    short (echo_within c.args.all c.args.v) (rw on c.write_verdict.ensures)
 
 pub returns-else-all-eq1 : goal.returns-else-all-eq1
 unfolding echo
 returns-else-all-eq1 c =
     let off : eqb c.args.all 1 ≡ false = ne_eqb _ _ c.if-all-eq1.false in
-    short (within c) (rw off (wrote_none c.args.out.now))
+    short (echo_within c.args.all c.args.v) (rw off (wrote_none c.args.out.now))

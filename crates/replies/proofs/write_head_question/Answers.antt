@@ -8,36 +8,32 @@ use Rattle.replies.specs.Replies.{all_reply_text, pause_text, head_text}
 use Rattle.replies.proofs.ReplyLaws.{short, head_within}
 use Rattle.replies.proofs.write_head_question.Goals as goal
 
--- what is answered is short
-within : (c : tie.Start) → length (head_text c.args.h c.args.q) ≤ 17
-within c = head_within c.args.h c.args.q
-
 pub returns-in-AskAllReply : goal.returns-in-AskAllReply
 unfolding head_text all_reply_text bytes
 returns-in-AskAllReply c =
-    short (within c) (rw c.in-AskAllReply.is c.write_either.ensures)
+    short (head_within c.args.h c.args.q) (rw c.in-AskAllReply.is c.write_either.ensures)
 
 pub returns-in-AskFlags : goal.returns-in-AskFlags
 unfolding head_text hex_byte
 returns-in-AskFlags c =
-    short (within c) (rw c.in-AskFlags.is (record { count = refl; buffer = c.write_hex.ensures }))
+    short (head_within c.args.h c.args.q) (rw c.in-AskFlags.is (record { count = refl; buffer = c.write_hex.ensures }))
 
 pub returns-in-AskError : goal.returns-in-AskError
 unfolding head_text
 returns-in-AskError c =
-    short (within c) (rw c.in-AskError.is c.write_error.ensures)
+    short (head_within c.args.h c.args.q) (rw c.in-AskError.is c.write_error.ensures)
 
 pub returns-in-AskPause : goal.returns-in-AskPause
 unfolding head_text pause_text bytes
 returns-in-AskPause c =
-    short (within c) (rw (c.in-AskPause.is, ← c.is_paused.ensures) c.write_either-in-AskPause.ensures)
+    short (head_within c.args.h c.args.q) (rw (c.in-AskPause.is, ← c.is_paused.ensures) c.write_either-in-AskPause.ensures)
 
 pub returns-in-AskBusy : goal.returns-in-AskBusy
 unfolding head_text hex_word hex_byte
 returns-in-AskBusy c =
-    short (within c) (rw c.in-AskBusy.is (record { count = refl; buffer = c.write_hex_word.ensures }))
+    short (head_within c.args.h c.args.q) (rw c.in-AskBusy.is (record { count = refl; buffer = c.write_hex_word.ensures }))
 
 pub returns-in-AskFree : goal.returns-in-AskFree
 unfolding head_text
 returns-in-AskFree c =
-    short (within c) (rw c.in-AskFree.is c.write_free.ensures)
+    short (head_within c.args.h c.args.q) (rw c.in-AskFree.is c.write_free.ensures)

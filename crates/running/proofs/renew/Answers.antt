@@ -8,7 +8,6 @@ use Rattle.running.proofs.renew.Goals as goal
 pub returns : goal.returns
 unfolding renewed
 returns c =
-    let r = c.urqolina_fresh-result in
     let a = c.args in
-    let done : fresh_call a.table.now 1 ≡ record { result = r.result; table = r.new.0 } = sym r.ensures in
+    let done : fresh_call a.table.now 1 ≡ record { result = c.urqolina_fresh-result.result; table = c.urqolina_fresh-result.new.table } = sym c.urqolina_fresh-result.ensures in
     rw done (record { table = refl; text = c.write_number.ensures })

@@ -20,29 +20,25 @@ wait_line-requires c =
 
 pub returns-in-Send : goal.returns-in-Send
 returns-in-Send c =
-    let k = c.job_of in
     let a = c.args in
-    let e = sym k.ensures ∙ c.in-Send.is in
+    let e = sym c.job_of.ensures ∙ c.in-Send.is in
     rw (e, ← whole_rest a.line.now 2) c.send.ensures
 
 pub returns-in-Touch : goal.returns-in-Touch
 returns-in-Touch c =
-    let k = c.job_of in
     let a = c.args in
-    let e = sym k.ensures ∙ c.in-Touch.is in
+    let e = sym c.job_of.ensures ∙ c.in-Touch.is in
     rw e c.touch.ensures
 
 pub returns-in-Wait : goal.returns-in-Wait
 returns-in-Wait c =
-    let k = c.job_of in
     let a = c.args in
-    let e = sym k.ensures ∙ c.in-Wait.is in
+    let e = sym c.job_of.ensures ∙ c.in-Wait.is in
     rw e c.wait_line.ensures
 
 pub returns-in-FourMotors : goal.returns-in-FourMotors
 returns-in-FourMotors c =
-    let k = c.job_of in
-    let e = sym k.ensures ∙ c.in-FourMotors.is in
+    let e = sym c.job_of.ensures ∙ c.in-FourMotors.is in
     rw e c.renew.ensures
 
 pub returns-in-Unknown : goal.returns-in-Unknown

@@ -12,7 +12,7 @@ pub write_command-requires : goal.write_command-requires
 write_command-requires c =
     let a = c.args in
     let e : c.urqolina_command-result.result ≡ (command_call a.table.now a.line.now (replicate 32 0)).result = ap (λ r. r.result) c.urqolina_command-result.ensures in
-    (c.requires, c.urqolina_command-result.auto.1.1.0, omega (arith, command_within a.table.now a.line.now (replicate 32 0)))
+    (c.requires, c.urqolina_command-result.auto.reply, omega (arith, command_within a.table.now a.line.now (replicate 32 0)))
 
 pub returns : goal.returns
 unfolding sent

@@ -8,7 +8,6 @@ use Rattle.running.proofs.touch.Goals as goal
 pub returns : goal.returns
 unfolding touched
 returns c =
-    let r = c.urqolina_reading-result in
     let a = c.args in
-    let done : reading_call a.table.now a.channel a.contacts ≡ record { result = r.result; table = r.new.0 } = sym r.ensures in
+    let done : reading_call a.table.now a.channel a.contacts ≡ record { result = c.urqolina_reading-result.result; table = c.urqolina_reading-result.new.table } = sym c.urqolina_reading-result.ensures in
     rw done (record { table = refl; text = c.write_number.ensures })

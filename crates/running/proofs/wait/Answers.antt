@@ -25,17 +25,16 @@ tick_once-result-requires c =
 
 pub loop-left-preserved : goal.loop-left-preserved
 loop-left-preserved c =
-    let w = c.tick_once-result in
     let l = c.loop-left in
     let n = c.args.n in
-    let counted : w.new.1.0 ≡ nets_after l.nets (tick_call l.table (replicate 64 0)).pulses = ap (λ r. r.nets) w.ensures in
+    let counted : c.tick_once-result.new.nets ≡ nets_after l.nets (tick_call l.table (replicate 64 0)).pulses = ap (λ r. r.nets) c.tick_once-result.ensures in
     let near = nets_within l.nets (tick_call l.table (replicate 64 0)).pulses (most_count * (n - l.left)) most_count l.invariant.3 (tick_within l.table) (omega arith) in
     let more = waited_more l.left (record { result = l.result; table = l.table; nets = l.nets }) (omega arith) in (
       omega arith,
-      w.auto.1.0 ∙ l.invariant.1,
-      w.auto.0 ∙ l.invariant.2,
+      c.tick_once-result.auto.nets ∙ l.invariant.1,
+      c.tick_once-result.auto.table ∙ l.invariant.2,
       rw counted (within_more (nets_after l.nets (tick_call l.table (replicate 64 0)).pulses) (most_count * (n - l.left) + most_count) (most_count * (n - (l.left - 1))) (omega arith) near),
-      rw w.ensures (sym more ∙ l.invariant.4),
+      rw c.tick_once-result.ensures (sym more ∙ l.invariant.4),
     )
 
 pub returns : goal.returns

@@ -7,7 +7,7 @@ use lib.ListN.{length-set}
 use borrow.Author.Rules.{rules}
 use Rattle.text.specs.Text.{hex_digit, hex_byte}
 use Rattle.digits.proofs.PutLaws.{stores_put}
-use Rattle.status.specs.Status.{status_v, status_hH}
+use Rattle.status.specs.Status.{status_v, status_hh}
 use Rattle.status.proofs.write_flags.Goals as goal
 
 pub bounds-out-4 : goal.bounds-out-4
@@ -25,4 +25,4 @@ returns c =
     let e : v.result % 16 ≡ v.result = omega arith in
     let d : h.result / 16 % 16 ≡ h.result / 16 = omega arith in
     rw (c.hex_digit-3.ensures, c.hex_digit-2.ensures, c.hex_digit.ensures, e, d, v.ensures.0, h.ensures)
-    (stores_put (hex_digit (status_v a.m) ∷ hex_byte (status_hH a.m)) a.out.now 3 (omega arith))
+    (stores_put (hex_digit (status_v a.m) ∷ hex_byte (status_hh a.m)) a.out.now 3 (omega arith))

@@ -25,10 +25,10 @@ returns c =
     let flags = c.write_flags in
     let letters = c.write_letters in
     let a = c.args in
-    let fits : 6 + length (position_text a.m.place) ≤ length flags.new.0 = omega (arith, position_within a.m.place) in
+    let fits : 6 + length (position_text a.m.place) ≤ length flags.new.out = omega (arith, position_within a.m.place) in
     record {
       count = omega (arith, w.count);
       buffer =
-          rw (w.buffer, put_rest flags.new.0 (position_text a.m.place) 6 fits, flags.ensures, letters.ensures)
+          rw (w.buffer, put_rest flags.new.out (position_text a.m.place) 6 fits, flags.ensures, letters.ensures)
           (status_put a.out.now a.k a.x a.m (omega arith));
     }

@@ -12,7 +12,7 @@ tick_all-requires c = (sym c.sound_table.ensures ∙ c.if-sound_table.true, size
 
 pub returns-then-sound_table : goal.returns-then-sound_table
 unfolding tick_call number_of
-returns-then-sound_table c = rw (c.if-table-pulses.true, ← c.sound_table.ensures, c.if-sound_table.true, c.tick_all.ensures.0, c.tick_all.ensures.1)
+returns-then-sound_table c = rw (c.if-table-pulses.true, ← c.sound_table.ensures, c.if-sound_table.true, c.tick_all.ensures.t_after, c.tick_all.ensures.pulses_after)
 
 pub returns-else-sound_table : goal.returns-else-sound_table
 returns-else-sound_table c = sym (tick_unsound _ _ c.if-table-pulses.true (sym c.sound_table.ensures ∙ c.if-sound_table.false))

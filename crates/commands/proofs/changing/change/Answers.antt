@@ -10,7 +10,7 @@ pub make_start-requires : goal.make_start-requires
 unfolding named value_in_range
 make_start-requires c =
     let told = c.in-Go.is in
-    (sound_length _ c.requires.0, rw told at (named_channel _ c.requires.1), rw told at c.requires.2, sound_sealed _ c.requires.0 (λ j. (c.type_inv.t j).fits))
+    (sound_length _ c.requires.0, rw told at (named_channel _ c.requires.1), rw told at c.requires.2, sound_sealed _ c.requires.0 (λ j. (c.slice_known-1.given j).fits))
 
 pub make_stop-requires : goal.make_stop-requires
 unfolding named
@@ -21,13 +21,13 @@ pub make_speed-requires : goal.make_speed-requires
 unfolding named value_in_range
 make_speed-requires c =
     let told = c.in-ChangeSpeed.is in
-    (sound_length _ c.requires.0, rw told at (named_channel _ c.requires.1), rw told at c.requires.2, sound_sealed _ c.requires.0 (λ j. (c.type_inv.t j).fits))
+    (sound_length _ c.requires.0, rw told at (named_channel _ c.requires.1), rw told at c.requires.2, sound_sealed _ c.requires.0 (λ j. (c.slice_known-1.given j).fits))
 
 pub make_setting-requires : goal.make_setting-requires
 unfolding named value_in_range
 make_setting-requires c =
     let told = c.in-Set.is in
-    (sound_length _ c.requires.0, rw told at (named_channel _ c.requires.1), rw told at c.requires.2, sound_sealed _ c.requires.0 (λ j. (c.type_inv.t j).fits))
+    (sound_length _ c.requires.0, rw told at (named_channel _ c.requires.1), rw told at c.requires.2, sound_sealed _ c.requires.0 (λ j. (c.slice_known-1.given j).fits))
 
 pub change_head-requires : goal.change_head-requires
 unfolding value_in_range

@@ -12,4 +12,7 @@ stop_listed-requires c =
     let t = c.args.t.now in
     let x = c.args.x in
     let channel = c.requires.1 in
-    ((sound_length t s, channel, sound_record_at t x s channel, sound_sealed t s (λ j. (c.slice-known.given j).fits)), rw c.read_head-h.ensures (sound_set_at t x s channel))
+    record {
+      t_len = (sound_length t s, channel, sound_record_at t x s channel, sound_sealed t s (λ j. (c.slice_known-1.given j).fits));
+      set_value = rw c.read_head-h.ensures (sound_set_at t x s channel);
+    }

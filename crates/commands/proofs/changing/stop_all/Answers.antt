@@ -17,7 +17,7 @@ read_head-h-requires c = sound_length _ c.requires
 pub loop-x-init : goal.loop-x-init
 loop-x-init c =
     let t₀ = c.args.t.now in
-    (search rules, sound_length t₀ c.requires, sym (up_to_none _ t₀ ∙ sound_sealed t₀ c.requires (λ j. (c.slice-known.given j).fits)))
+    (search rules, sound_length t₀ c.requires, sym (up_to_none _ t₀ ∙ sound_sealed t₀ c.requires (λ j. (c.slice_known-1.given j).fits)))
 
 pub stop_listed-requires : goal.stop_listed-requires
 stop_listed-requires c =
@@ -28,7 +28,10 @@ stop_listed-requires c =
     let channel : x ≤ 15 = omega arith in
     let sound : sound_record (record_at c.loop-x.t x) ≡ true = rw (c.loop-x.invariant.2, up_to_record f x t₀ whole (omega arith)) (sound_record_at t₀ x c.requires channel) in
     let seal : sealed c.loop-x.t ≡ c.loop-x.t = rw c.loop-x.invariant.2 (up_to_sealed f x t₀ whole (omega arith)) in
-    ((c.loop-x.invariant.1, channel, sound, seal), rw (c.read_head-h.ensures, c.loop-x.invariant.2, up_to_motor f x t₀ whole (omega arith)) (sound_set_at t₀ x c.requires channel))
+    record {
+      t_len = (c.loop-x.invariant.1, channel, sound, seal);
+      set_value = rw (c.read_head-h.ensures, c.loop-x.invariant.2, up_to_motor f x t₀ whole (omega arith)) (sound_set_at t₀ x c.requires channel);
+    }
 
 pub loop-x-preserved : goal.loop-x-preserved
 loop-x-preserved c =

@@ -38,4 +38,4 @@ unfolding meets_busy judge_motor
 returns-in-Set c = rw (c.in-Set.is, c.judge_set.ensures, c.motor_at-in-Set.ensures)
 
 pub returns-in_default : goal.returns-in_default
-returns-in_default c = sym (others_done _ _ c.args.o c.in_default.in_default-own.keys4)
+returns-in_default c = sym (others_done _ _ c.args.o c.in_default.not-Go c.in_default.not-ChangeSpeed c.in_default.not-Set)

@@ -6,12 +6,12 @@ use borrow.Author.Rules.{rules}
 use Rattle.commands.proofs.judging.judge_order.Goals as goal
 
 pub returns-then-not-has_form : goal.returns-then-not-has_form
-returns-then-not-has_form c = rw (← c.read_head-head.ensures, ← c.has_form.ensures, not-true c.has_form.result c.if-not-has_form.true)
+returns-then-not-has_form c = rw (← c.read_head-head.ensures, ← c.has_form.ensures, c.if-not-has_form.true)
 
 pub returns-then-needs_remote-head : goal.returns-then-needs_remote-head
 unfolding judge judge_where
 returns-then-needs_remote-head c =
-    rw (← c.read_head-head.ensures, ← c.has_form.ensures, not-false c.has_form.result c.if-not-has_form.false, ← c.needs_remote.ensures, c.if-needs_remote-head.true)
+    rw (← c.read_head-head.ensures, ← c.has_form.ensures, c.if-not-has_form.false, ← c.needs_remote.ensures, c.if-needs_remote-head.true)
 
 pub judge_channel-requires : goal.judge_channel-requires
 judge_channel-requires c =
@@ -20,9 +20,9 @@ judge_channel-requires c =
 pub returns-then-value_in_range : goal.returns-then-value_in_range
 unfolding judge judge_where
 returns-then-value_in_range c =
-    rw (c.judge_channel.ensures, ← c.read_head-head.ensures, ← c.has_form.ensures, not-false c.has_form.result c.if-not-has_form.false, ← c.needs_remote.ensures, c.if-needs_remote-head.false, ← c.value_in_range.ensures, c.if-value_in_range.true)
+    rw (c.judge_channel.ensures, ← c.read_head-head.ensures, ← c.has_form.ensures, c.if-not-has_form.false, ← c.needs_remote.ensures, c.if-needs_remote-head.false, ← c.value_in_range.ensures, c.if-value_in_range.true)
 
 pub returns-else-value_in_range : goal.returns-else-value_in_range
 unfolding judge judge_where
 returns-else-value_in_range c =
-    rw (← c.read_head-head.ensures, ← c.has_form.ensures, not-false c.has_form.result c.if-not-has_form.false, ← c.needs_remote.ensures, c.if-needs_remote-head.false, ← c.value_in_range.ensures, c.if-value_in_range.false)
+    rw (← c.read_head-head.ensures, ← c.has_form.ensures, c.if-not-has_form.false, ← c.needs_remote.ensures, c.if-needs_remote-head.false, ← c.value_in_range.ensures, c.if-value_in_range.false)

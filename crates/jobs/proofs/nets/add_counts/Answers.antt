@@ -26,7 +26,7 @@ added-requires c =
     let n : get_or c.loop-c.nets c.loop-c.c 0 ≡ get_or a.nets.now c.loop-c.c origin =
     rw (c.loop-c.invariant.1, up_to_next) (within_any a.nets.now c.loop-c.c 0 origin (omega arith)) in
     let p : c.place_of.result ≡ count_at a.pulses.now c.loop-c.c = rw (c.place_of.ensures, c.long_at.ensures) in
-    rw (n, p) (omega (arith, c.requires.1.0 c.loop-c.c, c.requires.1.1 c.loop-c.c))
+    rw (n, p) (omega (arith, c.requires.nets_within.0 c.loop-c.c, c.requires.nets_within.1 c.loop-c.c))
 
 pub bounds-nets-c-in-loop-c : goal.bounds-nets-c-in-loop-c
 bounds-nets-c-in-loop-c c = rw (size c) (omega arith)

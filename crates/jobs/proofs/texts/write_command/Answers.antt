@@ -46,16 +46,14 @@ pub returns : goal.returns
 unfolding command_text
 returns c =
     let a = c.args in
-    let d = c.write_decimal-n in
-    let w = c.write_reply in
     let number = plain_text (a.result % 256) in
     let text = reply_text (take (a.result / 256) a.reply.now) in
-    let spaced = set d.new.0 d.result (code " ") in
+    let spaced = set c.write_decimal-n.new.out c.write_decimal-n.result (code " ") in
     let short : length text ≤ 33 = omega (arith, reply_within (take (a.result / 256) a.reply.now), length-take (a.result / 256) a.reply.now) in
-    let fits : d.result + 1 + length text ≤ length spaced = simp length-set (omega (arith, few c)) in
+    let fits : c.write_decimal-n.result + 1 + length text ≤ length spaced = simp length-set (omega (arith, few c)) in
     record {
-      count = rw length-append (omega (arith, w.ensures.count, d.ensures.count));
+      count = rw length-append (omega (arith, c.write_reply.ensures.count, c.write_decimal-n.ensures.count));
       buffer =
-          rw (w.ensures.buffer, put_rest spaced text (d.result + 1) fits, d.ensures.buffer)
-          (text_byte_text a.out.now number text (code " ") d.result d.ensures.count (omega (arith, few c)));
+          rw (c.write_reply.ensures.buffer, put_rest spaced text (c.write_decimal-n.result + 1) fits, c.write_decimal-n.ensures.buffer)
+          (text_byte_text a.out.now number text (code " ") c.write_decimal-n.result c.write_decimal-n.ensures.count (omega (arith, few c)));
     }

@@ -48,7 +48,6 @@ pub returns : goal.returns
 unfolding net_text
 returns c =
     let a = c.args in
-    let w = c.write_signed in
     let other : a.net ≡ origin → ⊥ = c.if-net-eq-ORIGIN.false in
     let digit : c.hex_digit.result ≡ hex_digit a.c = let e : a.c % 16 ≡ a.c = omega arith in rw (c.hex_digit.ensures, e) in
     let head : List ℕ = code " " ∷ c.hex_digit.result ∷ code ":" ∷ [] in
@@ -57,8 +56,8 @@ returns c =
     let fits : 3 + length (signed_text a.net) ≤ length headed = simp length-set (omega (arith, signed_within 1 a.net (omega arith))) in
     rw (ne_eqb _ _ other)
     (record {
-      count = omega (arith, w.ensures.count);
+      count = omega (arith, c.write_signed.ensures.count);
       buffer =
-          rw (w.ensures.buffer, put_rest headed (signed_text a.net) 3 fits, put-head, ← digit)
+          rw (c.write_signed.ensures.buffer, put_rest headed (signed_text a.net) 3 fits, put-head, ← digit)
           (text_more a.out.now head (signed_text a.net) 3 refl (omega arith));
     })

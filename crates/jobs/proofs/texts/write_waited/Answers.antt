@@ -66,7 +66,6 @@ overflow_add-n c =
 pub loop-c-preserved : goal.loop-c-preserved
 unfolding netOf
 loop-c-preserved c =
-    let d = c.write_decimal-n in
     let nets = c.args.nets.now in
     let net = net_text c.loop-c.c (get_or nets c.loop-c.c origin) in
     let out = c.loop-c.out in
@@ -75,11 +74,11 @@ loop-c-preserved c =
     let r = room c in
     let longer : length (net_texts nets (c.loop-c.c + 1)) ≡ length (net_texts nets c.loop-c.c) + length net =
     rw (← nets_more nets c.loop-c.c, length-append) in
-    let put-here : put (put d.new.0 d.result (net_texts nets c.loop-c.c)) (d.result + length (net_texts nets c.loop-c.c)) net
-    ≡ put d.new.0 d.result (net_texts nets (c.loop-c.c + 1)) =
-    rw (put_after d.new.0 (net_texts nets c.loop-c.c) net d.result (omega arith), nets_more nets c.loop-c.c) in (
+    let put-here : put (put c.write_decimal-n.new.out c.write_decimal-n.result (net_texts nets c.loop-c.c)) (c.write_decimal-n.result + length (net_texts nets c.loop-c.c)) net
+    ≡ put c.write_decimal-n.new.out c.write_decimal-n.result (net_texts nets (c.loop-c.c + 1)) =
+    rw (put_after c.write_decimal-n.new.out (net_texts nets c.loop-c.c) net c.write_decimal-n.result (omega arith), nets_more nets c.loop-c.c) in (
       omega arith,
-      same_len_mid n (length out - n) out c.write_net-n.new.0 c.write_net-n.auto.0 ∙ c.loop-c.invariant.1,
+      same_len_mid n (length out - n) out c.write_net-n.new.out c.write_net-n.auto.out ∙ c.loop-c.invariant.1,
       omega (arith, (written c).count),
       omega (arith, (written c).count),
       rw ((written c).buffer, put_rest out net n (omega arith), c.loop-c.invariant.4, c.loop-c.invariant.3) put-here,
@@ -89,15 +88,14 @@ pub returns : goal.returns
 unfolding waited_text
 returns c =
     let a = c.args in
-    let d = c.write_decimal-n in
     let e : c.loop-c.c ≡ 16 = omega arith in
     let number = plain_text a.result in
     let texts = net_texts a.nets.now 16 in
-    let long : c.loop-c.n ≡ d.result + length texts = rw e at c.loop-c.invariant.3 in
-    let all : c.loop-c.out ≡ put d.new.0 d.result texts = rw e at c.loop-c.invariant.4 in
+    let long : c.loop-c.n ≡ c.write_decimal-n.result + length texts = rw e at c.loop-c.invariant.3 in
+    let all : c.loop-c.out ≡ put c.write_decimal-n.new.out c.write_decimal-n.result texts = rw e at c.loop-c.invariant.4 in
     record {
-      count = rw length-append (omega (arith, d.ensures.count));
+      count = rw length-append (omega (arith, c.write_decimal-n.ensures.count));
       buffer =
-          rw (all, d.ensures.buffer)
-          (text_more a.out.now number texts d.result d.ensures.count (omega (arith, few c)));
+          rw (all, c.write_decimal-n.ensures.buffer)
+          (text_more a.out.now number texts c.write_decimal-n.result c.write_decimal-n.ensures.count (omega (arith, few c)));
     }

@@ -9,34 +9,27 @@ use Rattle.lists.proofs.lines.write_move.Goals as goal
 
 pub slice_bounds-write_going-count : goal.slice_bounds-write_going-count
 slice_bounds-write_going-count c =
-    let w = c.write_speed-k in
     let a = c.args in
-    omega (arith, w.auto.0, w.ensures.count, speed_within a.m)
+    omega (arith, c.write_speed-k.auto.out, c.write_speed-k.ensures.count, speed_within a.m)
 
 pub slice_bounds-write_going-start : goal.slice_bounds-write_going-start
 slice_bounds-write_going-start c =
-    let w = c.write_speed-k in
     let a = c.args in
-    omega (arith, w.auto.0, w.ensures.count, speed_within a.m)
+    omega (arith, c.write_speed-k.auto.out, c.write_speed-k.ensures.count, speed_within a.m)
 
 pub write_going-requires : goal.write_going-requires
 write_going-requires c =
-    let w = c.write_speed-k in
     let a = c.args in
-    simp (length-take, length-drop) (omega (arith, w.auto.0, w.ensures.count, speed_within a.m))
+    simp (length-take, length-drop) (omega (arith, c.write_speed-k.auto.out, c.write_speed-k.ensures.count, speed_within a.m))
 
 pub overflow_add-result : goal.overflow_add-result
 overflow_add-result c =
-    let e = c.write_going in
-    let w = c.write_speed-k in
     let a = c.args in
-    omega (arith, w.ensures.count, e.ensures.count, speed_within a.m, going_within a.m)
+    omega (arith, c.write_speed-k.ensures.count, c.write_going.ensures.count, speed_within a.m, going_within a.m)
 
 pub returns : goal.returns
 unfolding move_text
 returns c =
-    let e = c.write_going in
-    let w = c.write_speed-k in
     let a = c.args in
-    wrote_more a.out.now w.new.0 e.new.0 (setting_text a.m ++ select_text a.m) (going_text a.m) w.result e.result w.ensures w.auto.0
-    (omega (arith, w.ensures.count, speed_within a.m, going_within a.m)) e.ensures
+    wrote_more a.out.now c.write_speed-k.new.out c.write_going.new.out (setting_text a.m ++ select_text a.m) (going_text a.m) c.write_speed-k.result c.write_going.result c.write_speed-k.ensures c.write_speed-k.auto.out
+    (omega (arith, c.write_speed-k.ensures.count, speed_within a.m, going_within a.m)) c.write_going.ensures

@@ -9,16 +9,12 @@ use Rattle.lists.proofs.lines.write_numbered.Goals as goal
 pub overflow_add-result : goal.overflow_add-result
 unfolding total_text bytes
 overflow_add-result c =
-    let e = c.write_then in
-    let w = c.write_text-k in
     let a = c.args in
-    omega (arith, w.ensures.count, e.ensures.count, total_within a.n)
+    omega (arith, c.write_text-k.ensures.count, c.write_then.ensures.count, total_within a.n)
 
 pub returns : goal.returns
 unfolding total_text bytes
 returns c =
-    let e = c.write_then in
-    let w = c.write_text-k in
     let a = c.args in
-    wrote_more a.out.now w.new.0 e.new.0 a.head.now (total_text a.n) w.result e.result w.ensures w.auto.0
-    (omega (arith, w.ensures.count, total_within a.n)) e.ensures
+    wrote_more a.out.now c.write_text-k.new.out c.write_then.new.out a.head.now (total_text a.n) c.write_text-k.result c.write_then.result c.write_text-k.ensures c.write_text-k.auto.out
+    (omega (arith, c.write_text-k.ensures.count, total_within a.n)) c.write_then.ensures

@@ -12,19 +12,16 @@ write_decimal-k-requires c = omega (arith, decimal_within 1 c.args.n (omega arit
 
 pub bounds-out-k : goal.bounds-out-k
 bounds-out-k c =
-    let w = c.write_decimal-k in
-    omega (arith, w.auto.0, w.ensures.count, decimal_within 1 c.args.n (omega arith))
+    omega (arith, c.write_decimal-k.auto.out, c.write_decimal-k.ensures.count, decimal_within 1 c.args.n (omega arith))
 
 pub overflow_add-result : goal.overflow_add-result
 overflow_add-result c =
-    let w = c.write_decimal-k in
-    omega (arith, w.ensures.count, decimal_within 1 c.args.n (omega arith))
+    omega (arith, c.write_decimal-k.ensures.count, decimal_within 1 c.args.n (omega arith))
 
 pub returns : goal.returns
 returns c =
     let a = c.args in
-    let w = c.write_decimal-k in
     record {
-      count = rw length-append (omega (arith, w.ensures.count));
-      buffer = rw w.ensures.buffer (text_byte a.out.now (plain_text a.n) a.b w.result w.ensures.count (omega (arith, w.ensures.count, decimal_within 1 a.n (omega arith))));
+      count = rw length-append (omega (arith, c.write_decimal-k.ensures.count));
+      buffer = rw c.write_decimal-k.ensures.buffer (text_byte a.out.now (plain_text a.n) a.b c.write_decimal-k.result c.write_decimal-k.ensures.count (omega (arith, c.write_decimal-k.ensures.count, decimal_within 1 a.n (omega arith))));
     }

@@ -15,7 +15,7 @@ pub loop-left-init : goal.loop-left-init
 unfolding bytes
 loop-left-init c =
     let a = c.args in
-    begin a.list.now c.write_text-n.new.0 c.write_text-n.result (omega (arith, c.write_text-n.auto.0, c.write_text-n.ensures.count))
+    begin a.list.now c.write_text-n.new.out c.write_text-n.result (omega (arith, c.write_text-n.auto.out, c.write_text-n.ensures.count))
 
 pub slice_bounds-take_step-count : goal.slice_bounds-take_step-count
 slice_bounds-take_step-count c = omega (arith, c.loop-left.invariant.room)
@@ -30,26 +30,23 @@ take_step-turn-requires c =
 
 pub overflow_add-n : goal.overflow_add-n
 overflow_add-n c =
-    let k = c.take_step-turn in
-    omega (arith, c.loop-left.invariant.room, k.ensures.0.count, text_within c.loop-left.total (step_at c.args.list.now c.loop-left.at))
+    omega (arith, c.loop-left.invariant.room, c.take_step-turn.ensures.wrote.count, text_within c.loop-left.total (step_at c.args.list.now c.loop-left.at))
 
 pub returns-then-turn : goal.returns-then-turn
 unfolding printed printed_with bytes
 returns-then-turn c =
     let g = c.loop-left.invariant in
     let a = c.args in
-    let k = c.take_step-turn in
-    finish_step a.list.now a.out.now _ c.write_text-n.new.0 c.write_text-n.result c.loop-left.out c.loop-left.n c.loop-left.at c.loop-left.total c.loop-left.left k.new.0 k.result.count
-    c.write_text-n.ensures c.write_text-n.auto.0 g (omega arith) (sym k.ensures.1.0 ∙ c.if-turn.true) k.ensures.0
+    finish_step a.list.now a.out.now _ c.write_text-n.new.out c.write_text-n.result c.loop-left.out c.loop-left.n c.loop-left.at c.loop-left.total c.loop-left.left c.take_step-turn.new.out c.take_step-turn.result.count
+    c.write_text-n.ensures c.write_text-n.auto.out g (omega arith) (sym c.take_step-turn.ensures.last_value.0 ∙ c.if-turn.true) c.take_step-turn.ensures.wrote
 
 pub loop-left-preserved : goal.loop-left-preserved
 loop-left-preserved c =
     let g = c.loop-left.invariant in
     let a = c.args in
-    let k = c.take_step-turn in
-    let on = next a.list.now c.write_text-n.new.0 c.write_text-n.result c.loop-left.out c.loop-left.n c.loop-left.at c.loop-left.total c.loop-left.left k.new.0 k.result.count
-    g (omega arith) (sym k.ensures.1.0 ∙ c.if-turn.false) k.ensures.0 in
-    rw (k.ensures.1.1.0, k.ensures.1.1.1) on
+    let on = next a.list.now c.write_text-n.new.out c.write_text-n.result c.loop-left.out c.loop-left.n c.loop-left.at c.loop-left.total c.loop-left.left c.take_step-turn.new.out c.take_step-turn.result.count
+    g (omega arith) (sym c.take_step-turn.ensures.last_value.0 ∙ c.if-turn.false) c.take_step-turn.ensures.wrote in
+    rw (c.take_step-turn.ensures.last_value.1.0, c.take_step-turn.ensures.last_value.1.1) on
 
 pub slice_bounds-write_last-count : goal.slice_bounds-write_last-count
 slice_bounds-write_last-count c = omega (arith, c.loop-left.invariant.room)
@@ -65,14 +62,12 @@ write_last-requires c =
 
 pub overflow_add-result : goal.overflow_add-result
 overflow_add-result c =
-    let k = c.write_last in
-    omega (arith, c.loop-left.invariant.room, k.ensures.count, last_within c.loop-left.total c.beyond_at.result)
+    omega (arith, c.loop-left.invariant.room, c.write_last.ensures.count, last_within c.loop-left.total c.beyond_at.result)
 
 pub returns : goal.returns
 unfolding printed printed_with bytes
 returns c =
     let g = c.loop-left.invariant in
     let a = c.args in
-    let k = c.write_last in
-    finish_last a.list.now a.out.now _ c.write_text-n.new.0 c.write_text-n.result c.loop-left.out c.loop-left.n c.loop-left.at c.loop-left.total c.loop-left.left k.new.0 k.result
-    c.write_text-n.ensures c.write_text-n.auto.0 g (omega arith) (rw (← c.beyond_at.ensures) k.ensures)
+    finish_last a.list.now a.out.now _ c.write_text-n.new.out c.write_text-n.result c.loop-left.out c.loop-left.n c.loop-left.at c.loop-left.total c.loop-left.left c.write_last.new.out c.write_last.result
+    c.write_text-n.ensures c.write_text-n.auto.out g (omega arith) (rw (← c.beyond_at.ensures) c.write_last.ensures)

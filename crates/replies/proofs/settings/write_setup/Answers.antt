@@ -9,22 +9,22 @@ use Rattle.replies.proofs.ReplyLaws.{setup_small}
 use Rattle.replies.proofs.settings.write_setup.Goals as goal
 
 pub overflow_add-out : goal.overflow_add-out
-overflow_add-out c = omega (arith, setup_small c.args.s c.requires.1)
+overflow_add-out c = omega (arith, setup_small c.args.s c.requires.s_value)
 
 pub overflow_add-out-2 : goal.overflow_add-out-2
-overflow_add-out-2 c = omega (arith, setup_small c.args.s c.requires.1)
+overflow_add-out-2 c = omega (arith, setup_small c.args.s c.requires.s_value)
 
 pub bounds-out-1 : goal.bounds-out-1
 bounds-out-1 c = simp length-set (omega arith)
 
 pub overflow_add-out-3 : goal.overflow_add-out-3
-overflow_add-out-3 c = omega (arith, setup_small c.args.s c.requires.1)
+overflow_add-out-3 c = omega (arith, setup_small c.args.s c.requires.s_value)
 
 pub bounds-out-2 : goal.bounds-out-2
 bounds-out-2 c = simp length-set (omega arith)
 
 pub overflow_add-out-4 : goal.overflow_add-out-4
-overflow_add-out-4 c = omega (arith, setup_small c.args.s c.requires.1)
+overflow_add-out-4 c = omega (arith, setup_small c.args.s c.requires.s_value)
 
 pub bounds-out-3 : goal.bounds-out-3
 bounds-out-3 c = simp length-set (omega arith)

@@ -44,5 +44,5 @@ returns-in-6 c = rw (← c.number_of.ensures, c.in-6.is) (wrote_none c.args.out.
 pub returns-in_default : goal.returns-in_default
 unfolding bytes
 returns-in_default c =
-    let r = c.in_default.rest in
+    let r = c.in_default.in_default-own.rest in
     rw (← c.number_of.ensures, left_over _ r.0.0.0.0.0.1 r.0.0.0.0.1 r.0.0.0.1 r.0.0.1 r.0.1 r.1) c.write_text-in_default.ensures

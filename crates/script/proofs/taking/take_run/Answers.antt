@@ -35,26 +35,25 @@ overflow_add-count-in-loop-read c =
 
 pub loop-read-preserved : goal.loop-read-preserved
 loop-read-preserved c =
-    let w = c.take_byte-t in
     let l = c.loop-read in
     let a = c.args in
     let r = byte_read l.opening l.table (take l.auto l.line) (get_or a.bytes.now l.read 0) in
     let few : length r.text ≤ 235 = byte_within l.opening l.table (take l.auto l.line) (get_or a.bytes.now l.read 0) in
-    let n : w.result.count ≡ length r.text = w.ensures.0.text.count in
+    let n : c.take_byte-t.result.count ≡ length r.text = c.take_byte-t.ensures.0.text.count in
     let room : l.count + 256 ≤ length l.out = omega (arith, leb-true) in
     let none : l.count + 0 ≡ l.count = omega arith in
     let lent = take (l.count + 256 - l.count) (drop l.count l.out) in
     let back : take l.count l.out ++ (put lent 0 r.text ++ drop (l.count + 256 - l.count) (drop l.count l.out)) ≡ put l.out l.count r.text =
     rw none at (put_part l.out r.text l.count (l.count + 256 - l.count) 0 (omega arith) (omega arith)) in
     let next = prints_more a.first a.table.now (take a.held a.line.now) a.bytes.now (take l.count l.out) l.opening l.table (take l.auto l.line) l.read (omega arith) l.invariant.7 in (
-      w.auto.0 ∙ l.invariant.0,
-      w.auto.1.0 ∙ l.invariant.1,
-      same_len_mid l.count (l.count + 256 - l.count) l.out w.new.1.1.1.1.1.0 w.auto.1.1.1.1.1.0 ∙ l.invariant.2,
-      w.ensures.1,
+      c.take_byte-t.auto.table ∙ l.invariant.0,
+      c.take_byte-t.auto.line ∙ l.invariant.1,
+      same_len_mid l.count (l.count + 256 - l.count) l.out c.take_byte-t.new.out c.take_byte-t.auto.out ∙ l.invariant.2,
+      c.take_byte-t.ensures.1,
       omega arith,
       omega arith,
       omega arith,
-      rw (w.ensures.0.text.buffer, back, w.ensures.0.first, w.ensures.0.table, w.ensures.0.held, n, front_more l.out r.text l.count (omega arith)) next,
+      rw (c.take_byte-t.ensures.0.text.buffer, back, c.take_byte-t.ensures.0.first, c.take_byte-t.ensures.0.table, c.take_byte-t.ensures.0.held, n, front_more l.out r.text l.count (omega arith)) next,
     )
 
 pub returns-else-count-out : goal.returns-else-count-out

@@ -16,9 +16,9 @@ unfolding motor_at
 put_ticked-requires c =
     let t = c.args.t.now in
     let m = c.args.m in
-    let held : motor_at t c.args.c ≡ m = rw c.requires.1.0 (sound_written_read m c.requires.1.2) in
-    let on : busy (motor_at t c.args.c) ≡ true = rw held (moving_busy m c.requires.1.1) in
-    ((c.requires.0.0, c.requires.0.2, c.requires.0.3, on), (rw (c.tick-after.ensures, c.requires.1.0) (tick_written m c.requires.1.1), rw c.tick-after.ensures (tick_sound m c.requires.1.2)))
+    let held : motor_at t c.args.c ≡ m = rw c.requires.c_value.0 (sound_written_read m c.requires.c_value.2) in
+    let on : busy (motor_at t c.args.c) ≡ true = rw held (moving_busy m c.requires.c_value.1) in
+    ((c.requires.t_len.0, c.requires.t_len.2, c.requires.t_len.3, on), (rw (c.tick-after.ensures, c.requires.c_value.0) (tick_written m c.requires.c_value.1), rw c.tick-after.ensures (tick_sound m c.requires.c_value.2)))
 
 pub returns : goal.returns
 unfolding tick_count

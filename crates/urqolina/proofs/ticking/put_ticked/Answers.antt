@@ -15,12 +15,12 @@ pub returns-then-m-eq0 : goal.returns-then-m-eq0
 unfolding with_motor
 returns-then-m-eq0 c =
     let m = c.args.m in
-    rw (c.mark_at.ensures, c.put_progress.ensures, c.requires.1.0)
-    (marked_sealed c.args.t.now c.args.c (record_of m) c.requires.0.0 c.requires.0.1 (record_length m) c.requires.0.2)
+    rw (c.mark_at.ensures, c.put_progress.ensures, c.requires.m_value.0)
+    (marked_sealed c.args.t.now c.args.c (record_of m) c.requires.t_len.0 c.requires.t_len.1 (record_length m) c.requires.t_len.2)
 
 pub returns-else-m-eq0 : goal.returns-else-m-eq0
 returns-else-m-eq0 c =
     let m = c.args.m in
     let on : busy m ≡ true = rw (ne_eqb _ _ c.if-m-eq0.false) in
-    rw (c.put_progress.ensures, c.requires.1.0)
-    (motor_unmarked c.args.t.now c.args.c m c.requires.0.0 c.requires.0.1 c.requires.0.2 c.requires.1.1 (on ∙ sym c.requires.0.3))
+    rw (c.put_progress.ensures, c.requires.m_value.0)
+    (motor_unmarked c.args.t.now c.args.c m c.requires.t_len.0 c.requires.t_len.1 c.requires.t_len.2 c.requires.m_value.1 (on ∙ sym c.requires.t_len.3))

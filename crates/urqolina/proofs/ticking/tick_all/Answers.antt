@@ -63,8 +63,8 @@ loop-left-preserved c =
       omega arith,
       search rules,
       search rules,
-      rw (c.tick_listed.ensures.0, c.loop-left.invariant.3) (up_to_next ticked k t₀ whole h),
-      rw (c.tick_listed.ensures.1, next, c.loop-left.invariant.4) (counts_next k t₀ no_counts h none_length),
+      rw (c.tick_listed.ensures.t_after, c.loop-left.invariant.3) (up_to_next ticked k t₀ whole h),
+      rw (c.tick_listed.ensures.pulses_after, next, c.loop-left.invariant.4) (counts_next k t₀ no_counts h none_length),
       rw c.loop-left.invariant.5 (one_less (head_of t₀).busy k),
       λ j. (c.type_inv.t j).fits,
     )
