@@ -24,4 +24,4 @@ returns-in-AskHead c = rw c.in-AskHead.is c.tell_head.ensures
 
 pub returns-in_default : goal.returns-in_default
 unfolding obeyed
-returns-in_default c = rw (unasked_told _ c.args.o c.in_default.in_default-own.keys3) c.carry_out.ensures
+returns-in_default c = rw (unasked_told _ c.args.o c.in_default.not-Ask c.in_default.not-AskHead) c.carry_out.ensures

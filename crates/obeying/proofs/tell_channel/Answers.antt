@@ -14,7 +14,12 @@ pub motor_at-requires : goal.motor_at-requires
 motor_at-requires c = (sound_length _ c.requires.0, c.requires.2)
 
 pub write_question-count-requires : goal.write_question-count-requires
-write_question-count-requires c = let s = sound_motor_at _ _ c.requires.0 c.requires.2 in (c.requires.1, (c.requires.2, rw c.motor_at.ensures (setup_sound _ s)))
+write_question-count-requires c =
+    record {
+      in_bounds = c.requires.1;
+      x_bound = c.requires.2;
+      setup_value = rw c.motor_at.ensures (setup_sound _ (sound_motor_at _ _ c.requires.0 c.requires.2));
+    }
 
 pub returns : goal.returns
 unfolding obeyed changed answer

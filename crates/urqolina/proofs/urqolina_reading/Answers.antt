@@ -19,7 +19,7 @@ pub read_channel-requires : goal.read_channel-requires
 read_channel-requires c =
     let a = c.args in
     let sound = sym c.sound_table.ensures ∙ c.if-sound_table.true in
-    (sound_length _ sound, (sizes_channel a.table.now a.channel a.contacts c.if-table-channel.true).0, sound_sealed _ sound (λ j. (c.slice-known.given j).fits))
+    (sound_length _ sound, (sizes_channel a.table.now a.channel a.contacts c.if-table-channel.true).0, sound_sealed _ sound (λ j. (c.slice_known-1.given j).fits))
 
 pub returns-then-sound_table : goal.returns-then-sound_table
 unfolding reading_call number_of

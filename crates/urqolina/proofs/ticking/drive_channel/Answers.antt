@@ -18,12 +18,15 @@ put_ticked-requires c =
     let m = c.args.m in
     let held : motor_at t c.args.c ≡ m = rw c.requires.c_value.0 (sound_written_read m c.requires.c_value.2) in
     let on : busy (motor_at t c.args.c) ≡ true = rw held (moving_busy m c.requires.c_value.1) in
-    ((c.requires.t_len.0, c.requires.t_len.2, c.requires.t_len.3, on), (rw (c.tick-after.ensures, c.requires.c_value.0) (tick_written m c.requires.c_value.1), rw c.tick-after.ensures (tick_sound m c.requires.c_value.2)))
+    record {
+      t_len = (c.requires.t_len.0, c.requires.t_len.2, c.requires.t_len.3, on);
+      m_value = (rw (c.tick-after.ensures, c.requires.c_value.0) (tick_written m c.requires.c_value.1), rw c.tick-after.ensures (tick_sound m c.requires.c_value.2));
+    }
 
 pub returns : goal.returns
 unfolding tick_count
 returns c =
-    (
-      rw (c.put_ticked.ensures, c.tick-after.ensures),
-      rw (c.put_long.ensures, c.count_of.ensures, c.tick-after.ensures),
-    )
+    record {
+      t_after = rw (c.put_ticked.ensures, c.tick-after.ensures);
+      pulses_after = rw (c.put_long.ensures, c.count_of.ensures, c.tick-after.ensures);
+    }

@@ -5,6 +5,8 @@ use Prim.Native.Nat.{ℕ, ◌+◌, ◌-◌, ◌/◌, ◌^◌, ◌≤◌}
 use native.Mathlib.Nat.{div-one}
 use native.Mathlib.Omega.{arith}
 use lib.ListN.{length}
+use mathlib.Core.List.{List}
+use Rattle.table.specs.Sound.{sound_table}
 use borrow.Author.Rules.{rules}
 use Rattle.digits.specs.Bytes.{AllBytes, put}
 use Rattle.digits.proofs.SetLaws.{one_less}
@@ -17,12 +19,8 @@ use Rattle.urqolina.proofs.RestLaws.{ticked, no_counts, none_length, zeroed_coun
 use Rattle.urqolina.proofs.ticking.tick_all.Goals as goal
 
 -- While the set has a channel left, the next one is one of sixteen.
-channel : (c : tie.In-loop invariant-loop decreases-loop) → c.before.loop.c ≤ 15
-channel c =
-    let l = c.before in
-    let a = l.before.before.before.before.before.before.before.before.before.before in
-    let t₀ = a.args.t.now in
-    some_left (head_of t₀).busy l.loop.c (rw (sound_set t₀ a.requires.0) (set_below t₀)) l.loop.invariant.0 (λ z. c.loop-test.true (l.loop.invariant.5 ∙ z))
+channel : (t₀ : List ℕ) (c left : ℕ) → sound_table t₀ ≡ true → c ≤ 16 → left ≡ (head_of t₀).busy / 2 ^ c → (left ≡ 0 → ⊥) → c ≤ 15
+channel t₀ c left s h e some = some_left (head_of t₀).busy c (rw (sound_set t₀ s) (set_below t₀)) h (λ z. some (e ∙ z))
 
 pub read_head-h-requires : goal.read_head-h-requires
 read_head-h-requires c = sound_length _ c.requires.0
@@ -34,10 +32,10 @@ loop-left-init c =
       omega arith,
       sound_length t₀ c.requires.0,
       search rules,
-      sym (up_to_none ticked t₀ ∙ sound_sealed t₀ c.requires.0 (λ j. (c.slice-known.given j).fits)),
+      sym (up_to_none ticked t₀ ∙ sound_sealed t₀ c.requires.0 (λ j. (c.slice_known-1.given j).fits)),
       c.zero_front.ensures ∙ zeros ∙ sym (counts_none t₀ no_counts),
       rw c.read_head-h.ensures (sym (div-one (head_of t₀).busy)),
-      λ j. (c.slice-known.given j).fits,
+      λ j. (c.slice_known-1.given j).fits,
     )
 
 pub tick_listed-requires : goal.tick_listed-requires
@@ -46,19 +44,22 @@ tick_listed-requires c =
     let k = c.loop-left.c in
     let s = c.requires.0 in
     let whole = sound_length t₀ s in
-    let h : k ≤ 15 = channel c in
+    let h : k ≤ 15 = channel c.args.t.now c.loop-left.c c.loop-left.left c.requires.0 c.loop-left.invariant.0 c.loop-left.invariant.5 c.loop-left-test.true in
     let sound : sound_record (record_at c.loop-left.t k) ≡ true = rw (c.loop-left.invariant.3, up_to_record ticked k t₀ whole (omega arith)) (sound_record_at t₀ k s h) in
-    ((c.loop-left.invariant.1, c.loop-left.invariant.2, h, rw c.loop-left.invariant.3 (up_to_sealed ticked k t₀ whole (omega arith))), (sound, rw c.loop-left.invariant.4 (zero_count t₀ k h), rw (c.loop-left.invariant.5, c.loop-left.invariant.3, up_to_motor ticked k t₀ whole (omega arith)) (sound_set_at t₀ k s h)))
+    record {
+      t_len = (c.loop-left.invariant.1, c.loop-left.invariant.2, h, rw c.loop-left.invariant.3 (up_to_sealed ticked k t₀ whole (omega arith)));
+      c_value = (sound, rw c.loop-left.invariant.4 (zero_count t₀ k h), rw (c.loop-left.invariant.5, c.loop-left.invariant.3, up_to_motor ticked k t₀ whole (omega arith)) (sound_set_at t₀ k s h));
+    }
 
 pub loop-left-smaller : goal.loop-left-smaller
-loop-left-smaller c = omega (arith, channel c)
+loop-left-smaller c = omega (arith, channel c.args.t.now c.loop-left.c c.loop-left.left c.requires.0 c.loop-left.invariant.0 c.loop-left.invariant.5 c.loop-left-test.true)
 
 pub loop-left-preserved : goal.loop-left-preserved
 loop-left-preserved c =
     let t₀ = c.args.t.now in
     let k = c.loop-left.c in
     let whole = sound_length t₀ c.requires.0 in
-    let h : k ≤ 15 = channel c in
+    let h : k ≤ 15 = channel c.args.t.now c.loop-left.c c.loop-left.left c.requires.0 c.loop-left.invariant.0 c.loop-left.invariant.5 c.loop-left-test.true in
     let next : motor_at c.loop-left.t k ≡ motor_at t₀ k = rw c.loop-left.invariant.3 (up_to_motor ticked k t₀ whole (omega arith)) in (
       omega arith,
       search rules,
@@ -76,7 +77,8 @@ returns c =
     let s = c.requires.0 in
     let up : k + (16 - k) ≡ 16 = omega (arith, c.loop-left.invariant.0) in
     let none : (head_of t₀).busy / 2 ^ k ≡ 0 = sym c.loop-left.invariant.5 ∙ c.loop-left-test.false in
-    let still : (d : ℕ) → k ≤ d → d ≤ 15 → busy (motor_at t₀ d) ≡ false = λ d h b. sym (sound_set_at t₀ d s b) ∙ none_left (head_of t₀).busy k d none h in (
-      c.loop-left.invariant.3 ∙ rest_table t₀ s (16 - k) k up still (rw c.loop-left.invariant.3 at c.loop-left.invariant.6) ∙ up_to_all ticked t₀ (sound_length t₀ s),
-      c.loop-left.invariant.4 ∙ rest_counts t₀ s (16 - k) k up still ∙ counts_all t₀ no_counts none_length,
-    )
+    let still : (d : ℕ) → k ≤ d → d ≤ 15 → busy (motor_at t₀ d) ≡ false = λ d h b. sym (sound_set_at t₀ d s b) ∙ none_left (head_of t₀).busy k d none h in
+    record {
+      t_after = c.loop-left.invariant.3 ∙ rest_table t₀ s (16 - k) k up still (rw c.loop-left.invariant.3 at c.loop-left.invariant.6) ∙ up_to_all ticked t₀ (sound_length t₀ s);
+      pulses_after = c.loop-left.invariant.4 ∙ rest_counts t₀ s (16 - k) k up still ∙ counts_all t₀ no_counts none_length;
+    }
