@@ -10,15 +10,11 @@ use Rattle.jobs.proofs.OutLaws.{within_any}
 use Rattle.jobs.proofs.NetLaws.{count_at, nets_up_to, up_to_none, up_to_all, up_to_length, up_to_next, up_to_more}
 use Rattle.jobs.proofs.nets.add_counts.Goals as goal
 
--- as many nets as there were
-size : (c : tie.At-loop invariant-loop decreases-loop) → length c.loop.nets ≡ length c.before.before.before.args.nets.now
-size c = rw c.loop.invariant.1 (up_to_length c.loop.c _ _)
-
 pub loop-c-init : goal.loop-c-init
 loop-c-init c = (omega arith, sym (up_to_none _ _))
 
 pub bounds-nets-c : goal.bounds-nets-c
-bounds-nets-c c = rw (size c) (omega arith)
+bounds-nets-c c = rw (c.loop-c.invariant.1, up_to_length c.loop-c.c c.args.nets.now c.args.pulses.now) (omega arith)
 
 pub added-requires : goal.added-requires
 added-requires c =
@@ -29,7 +25,7 @@ added-requires c =
     rw (n, p) (omega (arith, c.requires.nets_within.0 c.loop-c.c, c.requires.nets_within.1 c.loop-c.c))
 
 pub bounds-nets-c-in-loop-c : goal.bounds-nets-c-in-loop-c
-bounds-nets-c-in-loop-c c = rw (size c) (omega arith)
+bounds-nets-c-in-loop-c c = rw (c.loop-c.invariant.1, up_to_length c.loop-c.c c.args.nets.now c.args.pulses.now) (omega arith)
 
 pub loop-c-preserved : goal.loop-c-preserved
 loop-c-preserved c =

@@ -31,5 +31,5 @@ returns-in-75 c =
 pub returns-in_default : goal.returns-in_default
 unfolding lettered
 returns-in_default c =
-    let r = c.in_default.rest in
+    let r = c.in_default.in_default-own.rest in
     rw (ne_eqb _ _ r.0.0.0.1, ne_eqb _ _ r.0.0.1, ne_eqb _ _ r.0.1, ne_eqb _ _ r.1)

@@ -15,33 +15,6 @@ use Rattle.jobs.specs.Texts.{net_text, net_texts, waited_text, plain_text}
 use Rattle.jobs.proofs.OutLaws.{text_more, nets_more, nets_none, net_within, within_any}
 use Rattle.jobs.proofs.texts.write_waited.Goals as goal
 
--- the number takes ten bytes at most, and the buffer is as long as it was
-few : (c : tie.After-write-decimal invariant-loop decreases-loop) → (c.write-decimal.result ≤ 10) × (length c.write-decimal.new.0 ≡ 256)
-few c =
-    let w = c.write-decimal in
-    let n = c.before.before.before.before.args.res in
-    (omega (arith, w.ensures.count, decimal_within 1 n (omega arith)), omega (arith, w.auto.0))
-
--- so at each channel there is room for its net
-room : (c : tie.In-loop invariant-loop decreases-loop) → (c.before.loop.n + 14 ≤ length c.before.loop.out) × (length c.before.loop.out ≡ 256)
-room c = omega (arith, few c.before.before.before.before)
-
--- what is written is the channel's net, in fourteen bytes at most
-netOf : (c : tie.At-loop invariant-loop decreases-loop) → List ℕ
-netOf c = net_text c.loop.c (get_or c.before.before.before.before.before.before.before.args.nets.now c.loop.c origin)
-
-short : (c : tie.At-loop invariant-loop decreases-loop) → length (netOf c) ≤ 14
-unfolding netOf
-short c = net_within c.loop.c (get_or c.before.before.before.before.before.before.before.args.nets.now c.loop.c origin)
-
-written : (c : tie.After-write-net invariant-loop decreases-loop)
-    → Wrote (take (length c.before.before.before.before.loop.out - c.before.before.before.before.loop.n) (drop c.before.before.before.before.loop.n c.before.before.before.before.loop.out)) c.write-net.new.0 (netOf c.before.before.before.before) c.write-net.result
-unfolding netOf
-written c =
-    let l = c.before.before.before.before in
-    let nets = l.before.before.before.before.before.before.before.args.nets.now in
-    rw (within_any nets l.loop.c origin 0 (omega arith)) c.write-net.ensures
-
 pub write_decimal-n-requires : goal.write_decimal-n-requires
 write_decimal-n-requires c = omega (arith, decimal_within 1 c.args.res (omega arith))
 
@@ -51,27 +24,35 @@ loop-c-init c =
     (omega arith, refl, omega arith, rw (nets_none nets) (omega arith), rw (nets_none nets) (sym (put_none _ _)))
 
 pub slice_bounds-write_net-count : goal.slice_bounds-write_net-count
-slice_bounds-write_net-count c = omega (arith, room c)
+slice_bounds-write_net-count c = omega (arith, c.write_decimal-n.ensures.count, decimal_within 1 c.args.res (omega arith), c.write_decimal-n.auto.out)
 
 pub slice_bounds-write_net-start : goal.slice_bounds-write_net-start
-slice_bounds-write_net-start c = omega (arith, room c)
+slice_bounds-write_net-start c = omega (arith, c.write_decimal-n.ensures.count, decimal_within 1 c.args.res (omega arith), c.write_decimal-n.auto.out)
 
 pub write_net-n-requires : goal.write_net-n-requires
-write_net-n-requires c = simp (length-take, length-drop) (omega (arith, room c))
+write_net-n-requires c = simp (length-take, length-drop) (omega (arith, c.write_decimal-n.ensures.count, decimal_within 1 c.args.res (omega arith), c.write_decimal-n.auto.out))
 
 pub overflow_add-n : goal.overflow_add-n
 overflow_add-n c =
-    omega (arith, room c, (written c).count, short c)
+    let nets = c.args.nets.now in
+    let out = c.loop-c.out in
+    let n = c.loop-c.n in
+    let net = net_text c.loop-c.c (get_or nets c.loop-c.c origin) in
+    let written : Wrote (take (length out - n) (drop n out)) c.write_net-n.new.out net c.write_net-n.result =
+    rw (within_any nets c.loop-c.c origin 0 (omega arith)) c.write_net-n.ensures in
+    omega (arith, c.write_decimal-n.ensures.count, decimal_within 1 c.args.res (omega arith), c.write_decimal-n.auto.out, written.count, net_within c.loop-c.c (get_or c.args.nets.now c.loop-c.c origin))
 
 pub loop-c-preserved : goal.loop-c-preserved
-unfolding netOf
 loop-c-preserved c =
     let nets = c.args.nets.now in
     let net = net_text c.loop-c.c (get_or nets c.loop-c.c origin) in
     let out = c.loop-c.out in
     let n = c.loop-c.n in
-    let few_bytes : length net ≤ 14 = short c in
-    let r = room c in
+    let few_bytes : length net ≤ 14 = net_within c.loop-c.c (get_or nets c.loop-c.c origin) in
+    let few : c.write_decimal-n.result ≤ 10 = omega (arith, c.write_decimal-n.ensures.count, decimal_within 1 c.args.res (omega arith)) in
+    let long : length c.write_decimal-n.new.out ≡ length c.args.out.now = c.write_decimal-n.auto.out in
+    let written : Wrote (take (length out - n) (drop n out)) c.write_net-n.new.out net c.write_net-n.result =
+    rw (within_any nets c.loop-c.c origin 0 (omega arith)) c.write_net-n.ensures in
     let longer : length (net_texts nets (c.loop-c.c + 1)) ≡ length (net_texts nets c.loop-c.c) + length net =
     rw (← nets_more nets c.loop-c.c, length-append) in
     let put-here : put (put c.write_decimal-n.new.out c.write_decimal-n.result (net_texts nets c.loop-c.c)) (c.write_decimal-n.result + length (net_texts nets c.loop-c.c)) net
@@ -79,9 +60,9 @@ loop-c-preserved c =
     rw (put_after c.write_decimal-n.new.out (net_texts nets c.loop-c.c) net c.write_decimal-n.result (omega arith), nets_more nets c.loop-c.c) in (
       omega arith,
       same_len_mid n (length out - n) out c.write_net-n.new.out c.write_net-n.auto.out ∙ c.loop-c.invariant.1,
-      omega (arith, (written c).count),
-      omega (arith, (written c).count),
-      rw ((written c).buffer, put_rest out net n (omega arith), c.loop-c.invariant.4, c.loop-c.invariant.3) put-here,
+      omega (arith, written.count),
+      omega (arith, written.count),
+      rw (written.buffer, put_rest out net n (omega arith), c.loop-c.invariant.4, c.loop-c.invariant.3) put-here,
     )
 
 pub returns : goal.returns
@@ -89,7 +70,7 @@ unfolding waited_text
 returns c =
     let a = c.args in
     let e : c.loop-c.c ≡ 16 = omega arith in
-    let number = plain_text a.result in
+    let number = plain_text a.res in
     let texts = net_texts a.nets.now 16 in
     let long : c.loop-c.n ≡ c.write_decimal-n.result + length texts = rw e at c.loop-c.invariant.3 in
     let all : c.loop-c.out ≡ put c.write_decimal-n.new.out c.write_decimal-n.result texts = rw e at c.loop-c.invariant.4 in
@@ -97,5 +78,5 @@ returns c =
       count = rw length-append (omega (arith, c.write_decimal-n.ensures.count));
       buffer =
           rw (all, c.write_decimal-n.ensures.buffer)
-          (text_more a.out.now number texts c.write_decimal-n.result c.write_decimal-n.ensures.count (omega (arith, few c)));
+          (text_more a.out.now number texts c.write_decimal-n.result c.write_decimal-n.ensures.count (omega (arith, c.write_decimal-n.ensures.count, decimal_within 1 c.args.res (omega arith), c.write_decimal-n.auto.out)));
     }
