@@ -17,7 +17,7 @@ invariant-loop-left l = (l.left ≤ l.n)
     × (length l.nets ≡ 16)
     × (length l.table ≡ length l.initial.table)
     × NetsWithin (most_count * (l.n - l.left)) l.nets
-    × (waited l.left (record { l.result = l.result; l.table = l.table; l.nets = l.nets }) ≡ waited l.n (record { l.result = 0; l.table = l.initial.table; l.nets = l.initial.nets }))
+    × (waited l.left (record { result = l.result; table = l.table; nets = l.nets }) ≡ waited l.n (record { result = 0; table = l.initial.table; nets = l.initial.nets }))
 
 abbrev pub decreases-loop-left : goal.decreases-loop-left
 decreases-loop-left l = l.left

@@ -15,12 +15,12 @@ write_move-requires c =
 
 pub returns-in-Last : goal.returns-in-Last
 returns-in-Last c =
-    rw (← c.step_at.ensures, c.in-Last.is) (c.write_last.ensures, (refl, (refl, refl)))
+    rw (← c.step_at.ensures, c.in-Last.is) (record { wrote = c.write_last.ensures; last_value = refl; at_value = refl; total_value = refl })
 
 pub returns-in-Drive : goal.returns-in-Drive
 returns-in-Drive c =
-    rw (← c.step_at.ensures, c.in-Drive.is) (c.write_move.ensures, (refl, (refl, refl)))
+    rw (← c.step_at.ensures, c.in-Drive.is) (record { wrote = c.write_move.ensures; last_value = refl; at_value = refl; total_value = refl })
 
 pub returns-in-Wait : goal.returns-in-Wait
 returns-in-Wait c =
-    rw (← c.step_at.ensures, c.in-Wait.is) (c.write_wait.ensures, (refl, (refl, refl)))
+    rw (← c.step_at.ensures, c.in-Wait.is) (record { wrote = c.write_wait.ensures; last_value = refl; at_value = refl; total_value = refl })

@@ -38,15 +38,15 @@ returns-then-turn c =
     let g = c.loop-left.invariant in
     let a = c.args in
     finish_step a.list.now a.out.now _ c.write_text-n.new.out c.write_text-n.result c.loop-left.out c.loop-left.n c.loop-left.at c.loop-left.total c.loop-left.left c.take_step-turn.new.out c.take_step-turn.result.count
-    c.write_text-n.ensures c.write_text-n.auto.out g (omega arith) (sym c.take_step-turn.ensures.last_value.0 ∙ c.if-turn.true) c.take_step-turn.ensures.wrote
+    c.write_text-n.ensures c.write_text-n.auto.out g (omega arith) (sym c.take_step-turn.ensures.last_value ∙ c.if-turn.true) c.take_step-turn.ensures.wrote
 
 pub loop-left-preserved : goal.loop-left-preserved
 loop-left-preserved c =
     let g = c.loop-left.invariant in
     let a = c.args in
     let on = next a.list.now c.write_text-n.new.out c.write_text-n.result c.loop-left.out c.loop-left.n c.loop-left.at c.loop-left.total c.loop-left.left c.take_step-turn.new.out c.take_step-turn.result.count
-    g (omega arith) (sym c.take_step-turn.ensures.last_value.0 ∙ c.if-turn.false) c.take_step-turn.ensures.wrote in
-    rw (c.take_step-turn.ensures.last_value.1.0, c.take_step-turn.ensures.last_value.1.1) on
+    g (omega arith) (sym c.take_step-turn.ensures.last_value ∙ c.if-turn.false) c.take_step-turn.ensures.wrote in
+    rw (c.take_step-turn.ensures.at_value, c.take_step-turn.ensures.total_value) on
 
 pub slice_bounds-write_last-count : goal.slice_bounds-write_last-count
 slice_bounds-write_last-count c = omega (arith, c.loop-left.invariant.room)
