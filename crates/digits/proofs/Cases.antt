@@ -2,7 +2,7 @@
 use Rattle.std.proofs.Common.{◌≡◌, true, false, eqb, leb, [], ◌∷◌, refl}
 use Rattle.digits.specs.Bytes.{part, put, pieces, every, gather, all_zero}
 use Rattle.digits.specs.Words.{word, word_bytes, with_bit, without_bit, marked, bits_of, how_many, bits_set}
-use Rattle.digits.specs.Places.{origin, place_of, word_of, count_of, cw, ccw}
+use Rattle.digits.specs.Places.{place_of, word_of, count_of, cw, ccw}
 use Rattle.digits.specs.Computing.{computing_digits}
 
 -- -1 is FF FF FF FF and stands one below the origin; the lowest bytes come first

@@ -1,9 +1,8 @@
 -- Laws of what is read from a buffer. Assumes nothing.
-use Rattle.std.proofs.Common.{◌≡◌, ℕ, zero, suc, ◌+◌, ◌*◌, ◌^◌, ◌<◌, ◌≤◌, true, ◌&&◌, eqb, List, [], ◌∷◌, ◌++◌, length, get_or, take, drop, replicate, sym, refl, ap, ◌∙◌, append_assoc, append-nil, add-zero, add_assoc, zero-add, arith, length-append, length-drop, take-append-drop, length-take, length-take-le, get_or-drop, drop-cons, drop-drop, take_at, take-add, drop_at, eqb-true}
+use Rattle.std.proofs.Common.{◌≡◌, ℕ, zero, suc, ◌+◌, ◌<◌, ◌≤◌, true, ◌&&◌, eqb, List, [], ◌∷◌, ◌++◌, length, get_or, take, drop, replicate, refl, ◌∙◌, arith, length-drop, length-take-le, get_or-drop, drop-cons, drop-drop, take-add, eqb-true}
 use mathlib.Core.Bool.{and_assoc, and-eq-true_iff}
-use lib.Seq.{drop-length, take-length, sets, sets-eq}
+use lib.Seq.{take-length}
 use Rattle.digits.specs.Bytes.{AllBytes, part, joined, all_zero}
-use Rattle.digits.specs.Words.{word}
 
 -- A part has the bytes that it is to have, where the buffer has them.
 pub part_length : (s : List ℕ) (at n : ℕ) → at + n ≤ length s → length (part s at n) ≡ n

@@ -1,6 +1,6 @@
 -- What is written byte by byte, or into a part that was lent, as one `put` into the whole buffer.
 -- Assumes nothing.
-use Rattle.std.proofs.Common.{◌≡◌, ℕ, suc, ◌+◌, ◌-◌, ◌*◌, ◌<◌, ◌≤◌, List, [], ◌∷◌, ◌++◌, length, get_or, take, drop, set, replicate, sym, refl, ◌∙◌, append_assoc, append-nil, add-zero, add_assoc, add-suc, suc-add, zero-add, add-one, one-add, arith, length-append, length-drop, take-append-drop, length-take, take-suc, take-take, drop-drop, take_at, take-add, drop_at}
+use Rattle.std.proofs.Common.{◌≡◌, ℕ, suc, ◌+◌, ◌-◌, ◌*◌, ◌<◌, ◌≤◌, List, [], ◌∷◌, ◌++◌, length, get_or, take, drop, set, replicate, sym, ◌∙◌, append_assoc, append-nil, add-zero, add_assoc, add-suc, suc-add, zero-add, add-one, one-add, arith, length-append, length-drop, take-append-drop, length-take, take-suc, take-take, drop-drop, take_at, take-add, drop_at}
 use lib.ListN.{length-replicate, replicate-append-replicate}
 use lib.Seq.{drop-length, sets, sets-eq, set_at, take-append-le, drop-append-le}
 use Rattle.digits.specs.Bytes.{put, joined}

@@ -1,5 +1,5 @@
 -- A set of channels as a number: which bits it has, that these tell it, and what one channel more or less makes of it. Assumes nothing.
-use Rattle.std.proofs.Common.{◌≡◌, ℕ, zero, suc, ◌+◌, ◌-◌, ◌*◌, ◌/◌, ◌%◌, ◌^◌, ◌<◌, ◌≤◌, Bool, true, false, cond, eqb, sym, refl, ◌∙◌, pow-suc, add-one, arith, pow-add, eq-eqb, eqb-true}
+use Rattle.std.proofs.Common.{◌≡◌, ℕ, zero, suc, ◌+◌, ◌-◌, ◌*◌, ◌/◌, ◌%◌, ◌^◌, ◌<◌, Bool, true, false, cond, sym, refl, ◌∙◌, pow-suc, add-one, arith, pow-add, eqb-true}
 use native.Mathlib.Nat.{div-div-eq-div-mul}
 use lib.Bits.{bit_and, bit_or, and_high, or_add_and}
 use borrow.Author.Tests.{eqb-false}

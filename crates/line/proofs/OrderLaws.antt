@@ -1,7 +1,7 @@
 -- What every order of a line is: it names one of the sixteen channels, its directions, speed numbers, end flags and head bytes
 -- are those that document 01 gives, and the 0 of DYYY0yyy is 0. Assumes nothing.
 use Prim.Native.Char.{code}
-use Prim.Native.Nat.{ℕ, ◌+◌, ◌-◌, ◌≤◌}
+use Prim.Native.Nat.{ℕ, ◌+◌, ◌≤◌}
 use native.Mathlib.Omega.{arith}
 use mathlib.Core.Path.{◌≡◌, refl}
 use mathlib.Core.List.{List, [], ◌∷◌}

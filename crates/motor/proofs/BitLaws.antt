@@ -1,5 +1,5 @@
 -- The bits of bytes 24 to 31 that no sound record has set, and the fields that they tell of. Assumes nothing.
-use Rattle.std.proofs.Common.{◌≡◌, ℕ, ◌+◌, ◌-◌, ◌*◌, ◌/◌, ◌%◌, ◌^◌, ◌<◌, ◌≤◌, Bool, true, false, not, ◌&&◌, eqb, leb, List, length, refl, mod-eq_of_lt, arith, eq-eqb, ne_eqb, eqb-true, leb-false, leb-true}
+use Rattle.std.proofs.Common.{◌≡◌, ℕ, ◌+◌, ◌*◌, ◌/◌, ◌%◌, ◌^◌, ◌<◌, ◌≤◌, Bool, true, false, not, ◌&&◌, eqb, leb, List, length, refl, mod-eq_of_lt, arith, eq-eqb, ne_eqb, eqb-true, leb-false, leb-true}
 use lib.Bits.{bit_and, and_block, and_high, and_mask}
 use borrow.Author.Tests.{eqb-false}
 use Rattle.digits.specs.Bytes.{AllBytes, part}

@@ -13,7 +13,7 @@ use lib.Dec.{eqb, ltb, leb}
 use borrow.Author.Tests.{eqb-true, eq-eqb, ne_eqb, lt-ltb, ltb-true, ltb-false, leb-true, leb-false}
 use Rattle.digits.specs.Bytes.{AllBytes}
 use Rattle.digits.specs.Words.{word}
-use Rattle.text.specs.Text.{same, bytes}
+use Rattle.text.specs.Text.{same}
 use Rattle.digits.proofs.PartLaws.{append_bytes, cons_bytes, none_bytes}
 use Rattle.line.specs.Forms.{Row, forms, those}
 use Rattle.form.specs.Table.{packed, rows_with, is_word, rows_by, row_count, Numbers}

@@ -1,7 +1,6 @@
 -- Document 01, "Numbers handed back": what is answered.
 use Rattle.std.specs.Prelude.{ℕ, ◌-◌, List, [], ◌∷◌, cond, eqb}
 use Rattle.digits.specs.Words.{bit, is_set, bits_set}
-use Rattle.digits.specs.Places.{cw}
 use Rattle.text.specs.Text.{bytes, digit_byte, decimal, hex_byte, hex_word}
 use Rattle.record.specs.declared.Setup.{Setup}
 use Rattle.record.specs.declared.Motor.{Motor}

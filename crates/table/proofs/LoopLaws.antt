@@ -10,7 +10,7 @@ use lib.ListN.{length, drop, replicate, length-append}
 use lib.Dec.{eqb}
 use lib.Seq.{drop-drop}
 use borrow.Author.Tests.{eqb-true, eqb-false, eq-eqb}
-use Rattle.digits.specs.Bytes.{part, put, pieces, every, gather, all_zero}
+use Rattle.digits.specs.Bytes.{part, put, every, gather, all_zero}
 use Rattle.digits.specs.Words.{word, is_set}
 use Rattle.digits.proofs.PartLaws.{part_add, zero_append}
 use Rattle.digits.proofs.PutLaws.{put_after, put_none, put_whole}

@@ -1,16 +1,16 @@
 -- The busy set in the head, and bytes in the place of a record: what each write leaves, and that the set is kept one channel at a time.
 -- Assumes nothing.
 use mathlib.Core.Path.{◌≡◌, refl, sym, ap, ◌∙◌}
-use mathlib.Core.List.{List, [], ◌∷◌}
+use mathlib.Core.List.{List}
 use mathlib.Core.Bool.{Bool, true, false}
 use mathlib.Core.Logic.{◌⊎◌, inl, inr}
-use Prim.Native.Nat.{ℕ, ◌+◌, ◌*◌, ◌/◌, ◌%◌, ◌≤◌, ◌<◌}
+use Prim.Native.Nat.{ℕ, ◌+◌, ◌/◌, ◌%◌, ◌≤◌, ◌<◌}
 use native.Mathlib.Omega.{arith}
 use lib.ListN.{length}
 use lib.Dec.{eqb, ltb}
 use borrow.Author.Tests.{ltb-true, ltb-false, eqb-true, eqb-false}
 use Rattle.digits.specs.Bytes.{AllBytes, part, put}
-use Rattle.digits.specs.Words.{word, word_bytes, is_set, marked, bits_of, how_many, bits_set}
+use Rattle.digits.specs.Words.{word, word_bytes, is_set, how_many, bits_set}
 use Rattle.digits.proofs.PartLaws.{part_length, part_bytes}
 use Rattle.digits.proofs.PutLaws.{put_length, put_over, put_swap}
 use Rattle.digits.proofs.WordLaws.{bytes_word, word_below}

@@ -14,7 +14,6 @@ use lib.ListN.{length, take, drop, get_or, set, length-append, length-drop, drop
 use lib.Seq.{drop-cons, get_or-drop, take-suc, take_at}
 use borrow.Author.Tests.{leb-true, leb-false, le-leb, lt-leb, lt-ltb}
 use Rattle.digits.specs.Bytes.{put}
-use Rattle.digits.specs.Places.{origin}
 use Rattle.text.specs.declared.decimal.Number.TheVariants.{Nothing, Read}
 use Rattle.text.specs.Text.{is_digit, digit_value, digit_byte, digits_at_front, value_from, value_of, number_at_front}
 use Rattle.text.specs.Text.{last_digits, powers_up_to, digit_count, decimal, distance, signed_decimal}

@@ -1,6 +1,5 @@
 -- `drive::change_speed` meets its contract. Assumes nothing.
 use Rattle.drive.specs.Drives.{speed_changed}
-use borrow.Author.Rules.{rules}
 use Rattle.drive.proofs.change_speed.Goals as goal
 
 pub returns : goal.returns

@@ -3,7 +3,6 @@ use native.Mathlib.Omega.{arith}
 use Prim.Native.Nat.{◌≤◌, ◌<◌}
 use borrow.Author.Tests.{eq-eqb, ne_eqb, le-leb, lt-leb}
 use Rattle.drive.specs.Drives.{course_to}
-use borrow.Author.Rules.{rules}
 use Rattle.drive.proofs.course_to.Goals as goal
 
 pub returns-then-to-m : goal.returns-then-to-m

@@ -1,5 +1,4 @@
 -- `drive::end_drive` meets its contract. Assumes nothing.
-use borrow.Author.Rules.{rules}
 use Rattle.drive.proofs.end_drive.Goals as goal
 
 pub returns : goal.returns

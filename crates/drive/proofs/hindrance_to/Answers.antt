@@ -3,7 +3,6 @@ use native.Mathlib.Omega.{arith}
 use mathlib.Core.Path.{◌≡◌}
 use borrow.Author.Tests.{eq-eqb, ne_eqb}
 use Rattle.drive.specs.Drives.{hindrance}
-use borrow.Author.Rules.{rules}
 use Rattle.drive.proofs.hindrance_to.Goals as goal
 
 pub returns-then-m-eq0 : goal.returns-then-m-eq0

@@ -1,5 +1,4 @@
 -- `drive::judge_speed_change` meets its contract. Assumes nothing.
-use borrow.Author.Rules.{rules}
 use Rattle.drive.proofs.judge_speed_change.Goals as goal
 
 pub returns-then-is_busy : goal.returns-then-is_busy

@@ -1,6 +1,5 @@
 -- `drive::judge_start` meets its contract. Assumes nothing.
 use Rattle.drive.specs.Drives.{judge_start}
-use borrow.Author.Rules.{rules}
 use Rattle.drive.proofs.judge_start.Goals as goal
 
 pub returns-in-Stay : goal.returns-in-Stay

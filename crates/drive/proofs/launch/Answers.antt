@@ -1,5 +1,4 @@
 -- `drive::launch` meets its contract. Assumes nothing.
-use borrow.Author.Rules.{rules}
 use Rattle.drive.proofs.launch.Goals as goal
 
 pub returns : goal.returns

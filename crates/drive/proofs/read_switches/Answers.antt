@@ -6,7 +6,6 @@ use Rattle.motor.specs.Switches.{blocked}
 use mathlib.Core.Bool.{true, false, ◌&&◌}
 use mathlib.Core.Path.{◌≡◌}
 use Rattle.drive.specs.Drives.{switch_read}
-use borrow.Author.Rules.{rules}
 use Rattle.drive.proofs.read_switches.Goals as goal
 
 pub returns-then-hit : goal.returns-then-hit

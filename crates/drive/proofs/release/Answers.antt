@@ -1,5 +1,4 @@
 -- `drive::release` meets its contract. Assumes nothing.
-use borrow.Author.Rules.{rules}
 use Rattle.drive.specs.Drives.{released}
 use Rattle.drive.proofs.release.Goals as goal
 

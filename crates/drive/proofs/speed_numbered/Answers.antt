@@ -1,6 +1,5 @@
 -- `drive::speed_numbered` meets its contract. Assumes nothing.
 use Rattle.drive.specs.Drives.{speed_numbered}
-use borrow.Author.Rules.{rules}
 use Rattle.drive.proofs.speed_numbered.Goals as goal
 
 pub returns : goal.returns

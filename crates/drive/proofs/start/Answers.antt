@@ -1,6 +1,5 @@
 -- `drive::start` meets its contract. Assumes nothing.
 use Rattle.drive.specs.Drives.{started}
-use borrow.Author.Rules.{rules}
 use Rattle.drive.proofs.start.Goals as goal
 
 pub returns-in-Stay : goal.returns-in-Stay

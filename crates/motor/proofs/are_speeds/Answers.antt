@@ -1,5 +1,4 @@
 -- `motor::are_speeds` meets its contract. Assumes nothing.
-use Rattle.std.proofs.Common.{rules}
 use Rattle.motor.proofs.are_speeds.Goals as goal
 
 pub returns-then-is_speed-2 : goal.returns-then-is_speed-2

@@ -1,5 +1,4 @@
 -- `motor::bits_clear` meets its contract. Assumes nothing.
-use Rattle.std.proofs.Common.{rules}
 use Rattle.motor.proofs.bits_clear.Goals as goal
 
 pub returns : goal.returns

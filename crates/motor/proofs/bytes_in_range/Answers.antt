@@ -1,5 +1,5 @@
 -- `motor::bytes_in_range` meets its contract. Assumes nothing.
-use Rattle.std.proofs.Common.{◌≡◌, length, sym, arith, rules}
+use Rattle.std.proofs.Common.{◌≡◌, length, sym, arith}
 use Rattle.digits.specs.Bytes.{AllBytes}
 use Rattle.record.specs.Record.{motor_of}
 use Rattle.motor.proofs.SmallLaws.{bits_held, bytes_held, small_told, small_set}

@@ -1,5 +1,5 @@
 -- `motor::contacts_told` meets its contract. Assumes nothing.
-use Rattle.std.proofs.Common.{sym, ◌∙◌, arith, rules}
+use Rattle.std.proofs.Common.{sym, ◌∙◌, arith}
 use Rattle.digits.specs.Bytes.{AllBytes}
 use Rattle.motor.proofs.StandingLaws.{told_read, told_unknown, told_closed}
 use Rattle.motor.proofs.contacts_told.Goals as goal

@@ -1,5 +1,5 @@
 -- `motor::drives_right` meets its contract. Assumes nothing.
-use Rattle.std.proofs.Common.{sym, ◌∙◌, rules}
+use Rattle.std.proofs.Common.{sym, ◌∙◌}
 use Rattle.digits.specs.Places.{cw, ccw}
 use Rattle.record.specs.Record.{drive_of, motor_of}
 use Rattle.motor.proofs.DrivingLaws.{way_same}

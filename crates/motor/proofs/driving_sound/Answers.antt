@@ -1,5 +1,5 @@
 -- `motor::driving_sound` meets its contract. Assumes nothing.
-use Rattle.std.proofs.Common.{sym, ◌∙◌, rules, eq-eqb, ne_eqb}
+use Rattle.std.proofs.Common.{sym, ◌∙◌, eq-eqb, ne_eqb}
 use Rattle.motor.proofs.DrivingLaws.{allowed_most}
 use Rattle.motor.proofs.driving_sound.Goals as goal
 

@@ -1,5 +1,4 @@
 -- `motor::edge_of` meets its contract. Assumes nothing.
-use Rattle.std.proofs.Common.{rules}
 use Rattle.motor.specs.Switches.{edge}
 use Rattle.motor.proofs.edge_of.Goals as goal
 

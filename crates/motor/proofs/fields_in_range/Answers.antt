@@ -1,5 +1,4 @@
 -- `motor::fields_in_range` meets its contract. Assumes nothing.
-use Rattle.std.proofs.Common.{rules}
 use Rattle.motor.proofs.fields_in_range.Goals as goal
 
 pub returns-then-are_speeds : goal.returns-then-are_speeds

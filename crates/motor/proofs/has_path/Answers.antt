@@ -1,6 +1,5 @@
 -- `motor::has_path` meets its contract. Assumes nothing.
 use Rattle.record.specs.Record.{motor_of}
-use Rattle.std.proofs.Common.{rules}
 use Rattle.motor.proofs.has_path.Goals as goal
 
 pub returns-then-limits_in_range : goal.returns-then-limits_in_range

@@ -1,6 +1,5 @@
 -- `motor::has_room` meets its contract. Assumes nothing.
 use Rattle.motor.proofs.RoomLaws.{room_ahead}
-use Rattle.std.proofs.Common.{rules}
 use Rattle.motor.proofs.has_room.Goals as goal
 
 pub returns-then-lies_ahead-2 : goal.returns-then-lies_ahead-2

@@ -1,5 +1,4 @@
 -- `motor::is_active` meets its contract. Assumes nothing.
-use Rattle.std.proofs.Common.{rules}
 use Rattle.motor.specs.Switches.{active}
 use Rattle.motor.proofs.is_active.Goals as goal
 

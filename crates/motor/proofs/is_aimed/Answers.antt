@@ -1,5 +1,5 @@
 -- `motor::is_aimed` meets its contract. Assumes nothing.
-use Rattle.std.proofs.Common.{rules, eq-eqb, ne_eqb}
+use Rattle.std.proofs.Common.{eq-eqb, ne_eqb}
 use Rattle.motor.proofs.is_aimed.Goals as goal
 
 pub returns-then-is_position : goal.returns-then-is_position

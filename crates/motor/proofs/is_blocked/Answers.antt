@@ -1,5 +1,4 @@
 -- `motor::is_blocked` meets its contract. Assumes nothing.
-use Rattle.std.proofs.Common.{rules}
 use Rattle.motor.specs.Switches.{blocked}
 use Rattle.motor.proofs.is_blocked.Goals as goal
 

@@ -1,5 +1,4 @@
 -- `motor::is_clear` meets its contract. Assumes nothing.
-use Rattle.std.proofs.Common.{rules}
 use Rattle.motor.proofs.is_clear.Goals as goal
 
 pub returns-then-has_room : goal.returns-then-has_room

@@ -1,6 +1,5 @@
 -- `motor::is_free` meets its contract. Assumes nothing.
 use Rattle.record.specs.Record.{motor_of}
-use Rattle.std.proofs.Common.{rules}
 use Rattle.motor.proofs.is_free.Goals as goal
 
 pub returns-then-is_aimed : goal.returns-then-is_aimed

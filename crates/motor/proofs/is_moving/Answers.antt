@@ -1,5 +1,5 @@
 -- `motor::is_moving` meets its contract. Assumes nothing.
-use Rattle.std.proofs.Common.{sym, rules}
+use Rattle.std.proofs.Common.{sym}
 use Rattle.motor.specs.Sound.{busy, moving}
 use Rattle.motor.proofs.SoundLaws.{and_true, and_false}
 use Rattle.motor.proofs.is_moving.Goals as goal

@@ -1,6 +1,5 @@
 -- `motor::limits_in_range` meets its contract. Assumes nothing.
 use Rattle.motor.specs.Sound.{limits_in_range}
-use Rattle.std.proofs.Common.{rules}
 use Rattle.motor.proofs.limits_in_range.Goals as goal
 
 pub returns-then-is_position : goal.returns-then-is_position

@@ -1,5 +1,4 @@
 -- `motor::places_in_range` meets its contract. Assumes nothing.
-use Rattle.std.proofs.Common.{rules}
 use Rattle.motor.proofs.places_in_range.Goals as goal
 
 pub returns-then-is_position : goal.returns-then-is_position

@@ -1,5 +1,4 @@
 -- `motor::room_of` meets its contract. Assumes nothing.
-use Rattle.std.proofs.Common.{rules}
 use Rattle.motor.specs.Switches.{room}
 use Rattle.motor.proofs.room_of.Goals as goal
 

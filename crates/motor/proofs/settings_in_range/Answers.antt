@@ -1,5 +1,5 @@
 -- `motor::settings_in_range` meets its contract. Assumes nothing.
-use Rattle.std.proofs.Common.{◌≡◌, Bool, true, false, ◌&&◌, leb, refl, rules}
+use Rattle.std.proofs.Common.{◌≡◌, Bool, true, false, ◌&&◌, leb, refl}
 use Rattle.record.specs.declared.Motor.{Motor}
 use Rattle.digits.specs.Places.{is_position}
 use Rattle.record.specs.Record.{motor_of}

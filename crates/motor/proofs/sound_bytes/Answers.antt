@@ -1,5 +1,5 @@
 -- `motor::sound_bytes` meets its contract. Assumes nothing.
-use Rattle.std.proofs.Common.{sym, ◌∙◌, arith, rules}
+use Rattle.std.proofs.Common.{sym, ◌∙◌, arith}
 use Rattle.digits.specs.Bytes.{AllBytes}
 use Rattle.motor.proofs.JudgedLaws.{tail_judged, listed_judged, unlisted_judged}
 use Rattle.motor.proofs.sound_bytes.Goals as goal

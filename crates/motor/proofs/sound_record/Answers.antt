@@ -1,5 +1,5 @@
 -- `motor::sound_record` meets its contract. Assumes nothing.
-use Rattle.std.proofs.Common.{rules, ne_eqb}
+use Rattle.std.proofs.Common.{ne_eqb}
 use Rattle.motor.specs.Sound.{sound_record, sound_under}
 use Rattle.motor.proofs.sound_record.Goals as goal
 

@@ -1,5 +1,5 @@
 -- `motor::standing_sound` meets its contract. Assumes nothing.
-use Rattle.std.proofs.Common.{rules, ne_eqb}
+use Rattle.std.proofs.Common.{ne_eqb}
 use Rattle.motor.proofs.standing_sound.Goals as goal
 
 pub returns-then-contacts_told : goal.returns-then-contacts_told

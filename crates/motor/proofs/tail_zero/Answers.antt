@@ -1,7 +1,7 @@
 -- `motor::tail_zero` meets its contract. Assumes nothing.
 use Rattle.digits.specs.Bytes.{part}
 use Rattle.digits.proofs.WordLaws.{zero_part, word_zero}
-use Rattle.std.proofs.Common.{rules, ne_eqb}
+use Rattle.std.proofs.Common.{ne_eqb}
 use Rattle.motor.proofs.tail_zero.Goals as goal
 
 pub returns-then-wide_at-eq0 : goal.returns-then-wide_at-eq0

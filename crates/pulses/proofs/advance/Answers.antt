@@ -4,7 +4,6 @@ use Prim.Native.Nat.{◌≤◌}
 use Rattle.motor.specs.Switches.{room}
 use Rattle.motor.proofs.Laws.{room_holds}
 use native.Mathlib.Omega.{arith}
-use borrow.Author.Rules.{rules}
 use Rattle.pulses.proofs.advance.Goals as goal
 
 pub overflow_cast-to : goal.overflow_cast-to

@@ -1,5 +1,4 @@
 -- `pulses::allowed_pulses` meets its contract. Assumes nothing.
-use borrow.Author.Rules.{rules}
 use Rattle.pulses.proofs.allowed_pulses.Goals as goal
 
 pub returns : goal.returns

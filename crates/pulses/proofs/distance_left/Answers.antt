@@ -1,6 +1,5 @@
 -- `pulses::distance_left` meets its contract. Assumes nothing.
 use Rattle.pulses.specs.Ticks.{distance_left}
-use borrow.Author.Rules.{rules}
 use Rattle.pulses.proofs.distance_left.Goals as goal
 
 pub returns : goal.returns

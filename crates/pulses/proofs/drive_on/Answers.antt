@@ -1,7 +1,6 @@
 -- `pulses::drive_on` meets its contract. Assumes nothing.
 use mathlib.Core.Path.{sym, ◌∙◌}
 use Rattle.pulses.specs.Ticks.{driven_on}
-use borrow.Author.Rules.{rules}
 use Rattle.pulses.proofs.drive_on.Goals as goal
 
 pub returns-then-is_reached : goal.returns-then-is_reached

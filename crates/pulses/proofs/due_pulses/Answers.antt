@@ -1,7 +1,5 @@
 -- `pulses::due_pulses` meets its contract. Assumes nothing.
 use Rattle.pulses.specs.Ticks.{due}
-use native.Mathlib.Omega.{arith}
-use borrow.Author.Rules.{rules}
 use Rattle.pulses.proofs.due_pulses.Goals as goal
 
 pub returns : goal.returns

@@ -1,6 +1,5 @@
 -- `pulses::given_pulses` meets its contract. Assumes nothing.
 use Rattle.pulses.specs.Ticks.{given}
-use borrow.Author.Rules.{rules}
 use Rattle.pulses.proofs.given_pulses.Goals as goal
 
 pub returns : goal.returns

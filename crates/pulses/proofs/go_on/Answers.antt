@@ -1,5 +1,4 @@
 -- `pulses::go_on` meets its contract. Assumes nothing.
-use borrow.Author.Rules.{rules}
 use Rattle.pulses.proofs.go_on.Goals as goal
 
 pub returns : goal.returns

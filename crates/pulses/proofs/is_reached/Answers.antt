@@ -1,6 +1,5 @@
 -- `pulses::is_reached` meets its contract. Assumes nothing.
 use Rattle.pulses.specs.Ticks.{reached}
-use borrow.Author.Rules.{rules}
 use Rattle.pulses.proofs.is_reached.Goals as goal
 
 pub returns : goal.returns

@@ -1,6 +1,5 @@
 -- `pulses::is_used_up` meets its contract. Assumes nothing.
 use Rattle.pulses.specs.Ticks.{used_up}
-use borrow.Author.Rules.{rules}
 use Rattle.pulses.proofs.is_used_up.Goals as goal
 
 pub returns : goal.returns

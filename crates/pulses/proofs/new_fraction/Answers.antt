@@ -3,7 +3,6 @@ use mathlib.Core.Path.{◌≡◌}
 use mathlib.Core.Bool.{false}
 use Prim.Native.Nat.{ℕ, ◌+◌, ◌*◌, ◌<◌}
 use native.Mathlib.Omega.{arith}
-use borrow.Author.Rules.{rules}
 use Rattle.record.specs.declared.Motor.{Motor}
 use Rattle.pulses.specs.Ticks.{tick_speed, rest, given, reached, used_up}
 use Rattle.pulses.proofs.Laws.{nothing_rounded, carried_below}

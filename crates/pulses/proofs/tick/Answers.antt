@@ -1,6 +1,5 @@
 -- `pulses::tick` meets its contract. Assumes nothing.
 use Rattle.pulses.specs.Ticks.{tick_motor}
-use borrow.Author.Rules.{rules}
 use Rattle.pulses.proofs.tick.Goals as goal
 
 pub returns-then-m-eq-CW : goal.returns-then-m-eq-CW

@@ -1,5 +1,4 @@
 -- `pulses::tick_moving` meets its contract. Assumes nothing.
-use borrow.Author.Rules.{rules}
 use Rattle.pulses.proofs.tick_moving.Goals as goal
 
 pub returns : goal.returns

@@ -1,6 +1,5 @@
 -- `pulses::tick_speed` meets its contract. Assumes nothing.
 use Rattle.pulses.specs.Ticks.{tick_speed}
-use borrow.Author.Rules.{rules}
 use Rattle.pulses.proofs.tick_speed.Goals as goal
 
 pub returns : goal.returns

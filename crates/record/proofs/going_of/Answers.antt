@@ -5,7 +5,6 @@ use Prim.Native.Nat.{ℕ, ◌-◌, ◌≤◌}
 use native.Mathlib.Omega.{arith}
 use lib.Dec.{eqb}
 use borrow.Author.Tests.{eqb-true}
-use borrow.Author.Rules.{rules}
 use Rattle.digits.specs.Places.{cw, ccw}
 use Rattle.record.specs.Record.{going_of, held_of}
 use Rattle.record.proofs.RoundTrip.{free_way}

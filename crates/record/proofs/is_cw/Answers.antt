@@ -3,7 +3,6 @@ use mathlib.Core.Path.{◌≡◌, refl}
 use Prim.Native.Nat.{ℕ, zero, suc, ◌%◌, ◌≤◌}
 use native.Mathlib.Omega.{arith}
 use lib.Dec.{eqb}
-use borrow.Author.Rules.{rules}
 use Rattle.digits.specs.Places.{cw}
 use Rattle.record.specs.Record.{byte_at, going_of}
 use Rattle.record.proofs.is_cw.Goals as goal

@@ -1,5 +1,4 @@
 -- `record::is_going` meets its contract. Assumes nothing.
-use borrow.Author.Rules.{rules}
 use Rattle.record.proofs.is_going.Goals as goal
 
 pub returns : goal.returns

@@ -1,5 +1,4 @@
 -- `record::place_at` meets its contract. Assumes nothing.
-use borrow.Author.Rules.{rules}
 use Rattle.record.proofs.place_at.Goals as goal
 
 pub returns : goal.returns

@@ -1,5 +1,4 @@
 -- `record::put_place` meets its contract. Assumes nothing.
-use borrow.Author.Rules.{rules}
 use Rattle.record.proofs.put_place.Goals as goal
 
 pub returns : goal.returns

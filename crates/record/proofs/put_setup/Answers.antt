@@ -1,5 +1,4 @@
 -- `record::put_setup` meets its contract. Assumes nothing.
-use borrow.Author.Rules.{rules}
 use native.Mathlib.Omega.{arith}
 use Rattle.digits.proofs.PutLaws.{stores_put}
 use Rattle.record.specs.Record.{setup_bytes}

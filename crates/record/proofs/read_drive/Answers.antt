@@ -1,5 +1,4 @@
 -- `record::read_drive` meets its contract. Assumes nothing.
-use borrow.Author.Rules.{rules}
 use Rattle.record.proofs.read_drive.Goals as goal
 
 pub returns : goal.returns

@@ -1,5 +1,4 @@
 -- `record::read_motor` meets its contract. Assumes nothing.
-use borrow.Author.Rules.{rules}
 use Rattle.record.specs.Record.{motor_of}
 use Rattle.record.proofs.read_motor.Goals as goal
 

@@ -1,5 +1,4 @@
 -- `record::read_setup` meets its contract. Assumes nothing.
-use borrow.Author.Rules.{rules}
 use Rattle.record.proofs.read_setup.Goals as goal
 
 pub returns : goal.returns

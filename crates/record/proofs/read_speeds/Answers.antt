@@ -1,5 +1,4 @@
 -- `record::read_speeds` meets its contract. Assumes nothing.
-use borrow.Author.Rules.{rules}
 use Rattle.record.proofs.read_speeds.Goals as goal
 
 pub returns : goal.returns

@@ -1,5 +1,4 @@
 -- `record::read_wiring` meets its contract. Assumes nothing.
-use borrow.Author.Rules.{rules}
 use Rattle.record.proofs.read_wiring.Goals as goal
 
 pub returns : goal.returns

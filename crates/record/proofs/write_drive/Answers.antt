@@ -1,5 +1,4 @@
 -- `record::write_drive` meets its contract. Assumes nothing.
-use borrow.Author.Rules.{rules}
 use native.Mathlib.Omega.{arith}
 use mathlib.Core.List.{[], ◌∷◌}
 use Rattle.digits.specs.Bytes.{joined}

@@ -1,5 +1,4 @@
 -- `record::write_progress` meets its contract. Assumes nothing.
-use borrow.Author.Rules.{rules}
 use borrow.Author.Tests.{eq-eqb, ne_eqb}
 use Rattle.record.specs.Progress.{progressed}
 use Rattle.record.proofs.write_progress.Goals as goal

@@ -1,11 +1,8 @@
 -- `replies::write_echo` meets its contract. Assumes nothing.
 use mathlib.Core.Path.{◌≡◌}
 use mathlib.Core.Bool.{true, false}
-use Prim.Native.Nat.{◌≤◌}
-use lib.ListN.{length}
 use lib.Dec.{eqb}
 use borrow.Author.Tests.{eq-eqb, ne_eqb}
-use borrow.Author.Rules.{rules}
 use Rattle.replies.specs.Replies.{echo}
 use Rattle.replies.proofs.ReplyLaws.{short, wrote_none, echo_within}
 use Rattle.replies.proofs.write_echo.Goals as goal

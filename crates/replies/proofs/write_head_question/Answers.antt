@@ -1,8 +1,5 @@
 -- `replies::write_head_question` meets its contract. Assumes nothing.
 use mathlib.Core.Path.{refl}
-use Prim.Native.Nat.{◌≤◌}
-use lib.ListN.{length}
-use borrow.Author.Rules.{rules}
 use Rattle.text.specs.Text.{bytes, hex_byte, hex_word}
 use Rattle.replies.specs.Replies.{all_reply_text, pause_text, head_text}
 use Rattle.replies.proofs.ReplyLaws.{short, head_within}

@@ -1,8 +1,5 @@
 -- `replies::write_question` meets its contract. Assumes nothing.
-use Prim.Native.Nat.{◌≤◌}
 use native.Mathlib.Omega.{arith}
-use lib.ListN.{length}
-use borrow.Author.Rules.{rules}
 use Rattle.text.proofs.TextLaws.{decimal_within}
 use Rattle.replies.specs.Replies.{question_text}
 use Rattle.replies.proofs.ReplyLaws.{question_within, short}

@@ -1,6 +1,5 @@
 -- `status::going_letter` meets its contract. Assumes nothing.
 use borrow.Author.Tests.{eq-eqb, ne_eqb}
-use borrow.Author.Rules.{rules}
 use Rattle.status.specs.Status.{going_letter}
 use Rattle.status.proofs.going_letter.Goals as goal
 

@@ -1,5 +1,4 @@
 -- `status::status_hh` meets its contract. Assumes nothing.
-use borrow.Author.Rules.{rules}
 use Rattle.status.specs.Status.{status_hh}
 use Rattle.status.proofs.status_hh.Goals as goal
 

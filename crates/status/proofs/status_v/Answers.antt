@@ -1,6 +1,5 @@
 -- `status::status_v` meets its contract. Assumes nothing.
 use native.Mathlib.Omega.{arith}
-use borrow.Author.Rules.{rules}
 use Rattle.status.specs.Status.{status_v}
 use Rattle.status.proofs.status_v.Goals as goal
 

@@ -1,6 +1,5 @@
 -- `status::switch_bits` meets its contract. Assumes nothing.
 use native.Mathlib.Omega.{arith}
-use borrow.Author.Rules.{rules}
 use Rattle.status.specs.Status.{switch_bits}
 use Rattle.status.proofs.switch_bits.Goals as goal
 

@@ -1,6 +1,5 @@
 -- `status::switch_flags` meets its contract. Assumes nothing.
 use native.Mathlib.Omega.{arith}
-use borrow.Author.Rules.{rules}
 use Rattle.status.proofs.switch_flags.Goals as goal
 
 pub returns : goal.returns

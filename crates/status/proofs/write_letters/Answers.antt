@@ -4,7 +4,6 @@ use mathlib.Core.Path.{◌≡◌}
 use Prim.Native.Nat.{◌%◌}
 use native.Mathlib.Omega.{arith}
 use lib.ListN.{length-set}
-use borrow.Author.Rules.{rules}
 use Rattle.text.specs.Text.{hex_digit}
 use Rattle.digits.proofs.PutLaws.{stores_put}
 use Rattle.status.specs.Status.{mode_letter, going_letter}

@@ -3,7 +3,6 @@
 use Prim.Native.Nat.{◌+◌, ◌≤◌}
 use native.Mathlib.Omega.{arith}
 use lib.ListN.{length, length-take, length-drop}
-use borrow.Author.Rules.{rules}
 use Rattle.text.specs.Text.{hex_byte}
 use Rattle.digits.proofs.PutLaws.{put_rest}
 use Rattle.status.specs.Status.{position_text, status_text}

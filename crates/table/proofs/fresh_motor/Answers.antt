@@ -1,5 +1,4 @@
 -- `table::fresh_motor` meets its contract. Assumes nothing.
-use borrow.Author.Rules.{rules}
 use Rattle.record.specs.Record.{fresh_motor}
 use Rattle.table.proofs.fresh_motor.Goals as goal
 

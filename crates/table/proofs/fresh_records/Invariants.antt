@@ -1,12 +1,10 @@
 -- `table::fresh_records` meets its contract: after c turns the first c records are fresh, and every other byte is as it was.
 -- Assumes nothing.
-use mathlib.Core.Path.{◌≡◌, sym}
+use mathlib.Core.Path.{◌≡◌}
 use Prim.Native.Nat.{◌-◌, ◌≤◌}
-use native.Mathlib.Omega.{arith}
 use lib.ListN.{length}
-use borrow.Author.Rules.{rules}
 use Rattle.table.specs.Layout.{table_size}
-use Rattle.table.proofs.LoopLaws.{fresh_to, fresh_none, fresh_next}
+use Rattle.table.proofs.LoopLaws.{fresh_to}
 use Rattle.table.proofs.fresh_records.Given as goal
 
 abbrev pub invariant-loop-c : goal.invariant-loop-c

@@ -1,6 +1,5 @@
 -- `table::is_moving_at` meets its contract. Assumes nothing.
 use native.Mathlib.Nat.{add-sub_cancel_left}
-use borrow.Author.Rules.{rules}
 use Rattle.digits.specs.Bytes.{part}
 use Rattle.motor.proofs.RecordLaws.{record_moves}
 use Rattle.table.specs.Layout.{record_at, motor_at}

@@ -1,6 +1,5 @@
 -- `table::is_standing_at` meets its contract. Assumes nothing.
 use native.Mathlib.Nat.{add-sub_cancel_left}
-use borrow.Author.Rules.{rules}
 use Rattle.digits.specs.Bytes.{part}
 use Rattle.table.specs.Layout.{motor_at}
 use Rattle.table.proofs.is_standing_at.Goals as goal

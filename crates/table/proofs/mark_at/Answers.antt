@@ -1,5 +1,4 @@
 -- `table::mark_at` meets its contract. Assumes nothing.
-use borrow.Author.Rules.{rules}
 use Rattle.table.proofs.mark_at.Goals as goal
 
 pub returns : goal.returns

@@ -1,5 +1,4 @@
 -- `table::put_drive` meets its contract: the record that was lent is back in its place. Assumes nothing.
-use borrow.Author.Rules.{rules}
 use native.Mathlib.Omega.{arith}
 use Rattle.digits.specs.Bytes.{put}
 use Rattle.digits.proofs.PartLaws.{part_length}

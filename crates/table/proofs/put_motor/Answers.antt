@@ -1,5 +1,4 @@
 -- `table::put_motor` meets its contract: the record is written, and its channel marked in the busy set. Assumes nothing.
-use borrow.Author.Rules.{rules}
 use Rattle.record.specs.Record.{record_of}
 use Rattle.record.proofs.RoundTrip.{record_length}
 use Rattle.table.specs.Layout.{with_motor}

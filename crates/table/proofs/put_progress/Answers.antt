@@ -1,5 +1,4 @@
 -- `table::put_progress` meets its contract: the record that was lent is back in its place. Assumes nothing.
-use borrow.Author.Rules.{rules}
 use native.Mathlib.Omega.{arith}
 use Rattle.digits.proofs.PartLaws.{part_length}
 use Rattle.record.specs.Progress.{progressed}

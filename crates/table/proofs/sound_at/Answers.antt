@@ -1,6 +1,5 @@
 -- `table::sound_at` meets its contract. Assumes nothing.
 use native.Mathlib.Nat.{add-sub_cancel_left}
-use borrow.Author.Rules.{rules}
 use Rattle.digits.specs.Bytes.{part}
 use Rattle.table.proofs.sound_at.Goals as goal
 

@@ -4,7 +4,6 @@ use mathlib.Core.List.{List}
 use Prim.Native.Nat.{ℕ}
 use lib.ListN.{length}
 use borrow.Author.Tests.{ne_eqb}
-use borrow.Author.Rules.{rules}
 use Rattle.digits.specs.Bytes.{part}
 use Rattle.digits.proofs.PartLaws.{part_whole}
 use Rattle.table.specs.Layout.{table_size}

@@ -1,6 +1,5 @@
 -- `table::sound_whole` meets its contract. Assumes nothing.
 use borrow.Author.Tests.{eq-eqb}
-use borrow.Author.Rules.{rules}
 use Rattle.table.specs.Sound.{sound_table}
 use Rattle.table.proofs.sound_whole.Goals as goal
 

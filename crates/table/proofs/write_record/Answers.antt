@@ -1,5 +1,4 @@
 -- `table::write_record` meets its contract: the record that was lent is written anew, and is back in its place. Assumes nothing.
-use borrow.Author.Rules.{rules}
 use Rattle.record.specs.Record.{record_of}
 use Rattle.record.proofs.RoundTrip.{record_length}
 use Rattle.table.specs.Layout.{record_start}

@@ -2,7 +2,6 @@
 use Rattle.commands.proofs.ChannelLaws.{named, named_channel}
 use Rattle.orders.specs.Values.{value_in_range}
 use Rattle.commands.specs.Changing.{changed}
-use borrow.Author.Rules.{rules}
 use Rattle.table.proofs.TableLaws.{sound_length, sound_sealed}
 use Rattle.commands.proofs.changing.change.Goals as goal
 

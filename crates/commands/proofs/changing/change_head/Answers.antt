@@ -1,5 +1,4 @@
 -- `commands::changing::change_head` meets its contract. Assumes nothing.
-use borrow.Author.Rules.{rules}
 use Rattle.table.proofs.TableLaws.{sound_length}
 use Rattle.commands.proofs.HeadOrderLaws.{freed_length}
 use Rattle.commands.proofs.changing.change_head.Goals as goal

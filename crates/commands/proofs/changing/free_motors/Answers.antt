@@ -1,5 +1,4 @@
 -- `commands::changing::free_motors` meets its contract. Assumes nothing.
-use borrow.Author.Rules.{rules}
 use Rattle.commands.proofs.changing.free_motors.Goals as goal
 
 pub returns-then-is_release : goal.returns-then-is_release

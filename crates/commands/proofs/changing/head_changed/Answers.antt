@@ -1,5 +1,4 @@
 -- `commands::changing::head_changed` meets its contract. Assumes nothing.
-use borrow.Author.Rules.{rules}
 use borrow.Author.Tests.{leb-true}
 use Rattle.commands.specs.Changing.{head_changed}
 use Rattle.commands.proofs.changing.head_changed.Goals as goal

@@ -1,7 +1,6 @@
 -- `commands::changing::make_release` meets its contract. Assumes nothing.
 use mathlib.Core.Path.{◌≡◌, sym}
 use mathlib.Core.Bool.{Bool, true, false, cond, false≢true}
-use borrow.Author.Rules.{rules}
 use Rattle.digits.specs.Bytes.{put}
 use Rattle.record.specs.declared.Motor.{Motor}
 use Rattle.record.specs.Record.{record_of, with_drive, let_go}

@@ -1,5 +1,4 @@
 -- `commands::changing::make_setting` meets its contract. Assumes nothing.
-use borrow.Author.Rules.{rules}
 use Rattle.commands.proofs.changing.make_setting.Goals as goal
 
 pub returns : goal.returns

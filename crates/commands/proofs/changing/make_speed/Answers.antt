@@ -1,5 +1,4 @@
 -- `commands::changing::make_speed` meets its contract. Assumes nothing.
-use borrow.Author.Rules.{rules}
 use Rattle.commands.proofs.changing.make_speed.Goals as goal
 
 pub returns : goal.returns

@@ -1,5 +1,4 @@
 -- `commands::changing::make_start` meets its contract. Assumes nothing.
-use borrow.Author.Rules.{rules}
 use Rattle.commands.proofs.changing.make_start.Goals as goal
 
 pub returns : goal.returns

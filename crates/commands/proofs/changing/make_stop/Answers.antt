@@ -1,5 +1,4 @@
 -- `commands::changing::make_stop` meets its contract. Assumes nothing.
-use borrow.Author.Rules.{rules}
 use Rattle.table.proofs.TableLaws.{sound_length, sound_record_at, sound_sealed, sound_set_at}
 use Rattle.commands.proofs.changing.make_stop.Goals as goal
 

@@ -2,13 +2,12 @@
 use borrow.Author.Rules.{rules}
 use native.Mathlib.Omega.{arith}
 use mathlib.Core.Path.{◌≡◌, sym, ◌∙◌}
-use Prim.Native.Nat.{◌-◌, ◌≤◌}
-use lib.ListN.{length}
+use Prim.Native.Nat.{◌≤◌}
 use mathlib.Core.Bool.{true}
 use Rattle.motor.specs.Sound.{sound_record}
-use Rattle.table.specs.Layout.{table_size, record_at, sealed}
+use Rattle.table.specs.Layout.{record_at, sealed}
 use Rattle.drive.specs.Drives.{stopped}
-use Rattle.table.proofs.TableLaws.{up_to, up_to_none, up_to_record, up_to_motor, up_to_sealed, up_to_next, up_to_all, sound_length, sound_record_at, sound_sealed, sound_set_at}
+use Rattle.table.proofs.TableLaws.{up_to_none, up_to_record, up_to_motor, up_to_sealed, up_to_next, up_to_all, sound_length, sound_record_at, sound_sealed, sound_set_at}
 use Rattle.commands.proofs.changing.stop_all.Goals as goal
 
 pub read_head-h-requires : goal.read_head-h-requires

@@ -1,7 +1,6 @@
 -- `commands::changing::stop_listed` meets its contract. Assumes nothing.
 use mathlib.Core.Path.{◌≡◌, sym, ◌∙◌}
 use mathlib.Core.Bool.{true, false}
-use borrow.Author.Rules.{rules}
 use Rattle.digits.specs.Bytes.{put}
 use Rattle.record.specs.Record.{record_of, standing}
 use Rattle.record.specs.Progress.{flags_and_drive}

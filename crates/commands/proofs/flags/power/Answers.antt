@@ -2,7 +2,6 @@
 use native.Mathlib.Omega.{arith}
 use Prim.Native.Nat.{◌^◌, ◌≤◌}
 use Rattle.commands.proofs.FlagLaws.{flag_worth}
-use borrow.Author.Rules.{rules}
 use Rattle.commands.proofs.flags.power.Goals as goal
 
 pub returns : goal.returns

@@ -1,5 +1,4 @@
 -- `commands::flags::set_flag` meets its contract. Assumes nothing.
-use borrow.Author.Rules.{rules}
 use Rattle.commands.specs.Changing.{flagged}
 use Rattle.commands.proofs.flags.set_flag.Goals as goal
 

@@ -1,6 +1,5 @@
 -- `commands::flags::with_bit` meets its contract. Assumes nothing.
 use Rattle.digits.specs.Words.{with_bit}
-use borrow.Author.Rules.{rules}
 use Rattle.commands.proofs.flags.with_bit.Goals as goal
 
 pub returns-then-is_set : goal.returns-then-is_set

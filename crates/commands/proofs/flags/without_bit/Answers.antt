@@ -3,7 +3,6 @@ use mathlib.Core.Path.{◌≡◌, sym, ◌∙◌}
 use mathlib.Core.Bool.{true}
 use Rattle.commands.proofs.FlagLaws.{set_within}
 use Rattle.digits.specs.Words.{is_set, without_bit}
-use borrow.Author.Rules.{rules}
 use Rattle.commands.proofs.flags.without_bit.Goals as goal
 
 pub overflow_sub-result : goal.overflow_sub-result

@@ -4,7 +4,6 @@ use Rattle.commands.proofs.ChannelLaws.{others_done}
 use Rattle.commands.specs.Judging.{meets_busy, judge_motor}
 use Rattle.orders.specs.Values.{value_in_range}
 use Rattle.commands.proofs.ChannelLaws.{named, named_channel}
-use borrow.Author.Rules.{rules}
 use Rattle.commands.proofs.judging.judge_channel.Goals as goal
 
 pub motor_at-requires : goal.motor_at-requires

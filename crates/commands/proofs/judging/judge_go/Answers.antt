@@ -1,5 +1,4 @@
 -- `commands::judging::judge_go` meets its contract. Assumes nothing.
-use borrow.Author.Rules.{rules}
 use Rattle.commands.proofs.judging.judge_go.Goals as goal
 
 pub returns-then-is_busy : goal.returns-then-is_busy

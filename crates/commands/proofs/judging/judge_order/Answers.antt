@@ -1,8 +1,6 @@
 -- `commands::judging::judge_order` meets its contract. Assumes nothing.
 use mathlib.Core.Path.{sym, ◌∙◌}
 use Rattle.commands.specs.Judging.{judge_where, judge}
-use borrow.Author.Tests.{not-true, not-false}
-use borrow.Author.Rules.{rules}
 use Rattle.commands.proofs.judging.judge_order.Goals as goal
 
 pub returns-then-not-has_form : goal.returns-then-not-has_form

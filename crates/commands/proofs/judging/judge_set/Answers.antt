@@ -1,5 +1,4 @@
 -- `commands::judging::judge_set` meets its contract. Assumes nothing.
-use borrow.Author.Rules.{rules}
 use Rattle.commands.proofs.judging.judge_set.Goals as goal
 
 pub returns-then-is_busy : goal.returns-then-is_busy

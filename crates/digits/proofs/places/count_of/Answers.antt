@@ -1,5 +1,5 @@
 -- `digits::places::count_of` meets its contract. Assumes nothing.
-use Rattle.std.proofs.Common.{◌≡◌, ℕ, ◌+◌, ◌-◌, ◌%◌, ◌^◌, ◌<◌, arith, rules}
+use Rattle.std.proofs.Common.{◌≡◌, ℕ, ◌+◌, ◌-◌, ◌%◌, ◌^◌, ◌<◌, arith}
 use Rattle.digits.specs.Places.{count_of}
 use Rattle.digits.proofs.places.count_of.Goals as goal
 

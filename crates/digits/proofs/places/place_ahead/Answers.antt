@@ -1,5 +1,5 @@
 -- `digits::places::place_ahead` meets its contract. Assumes nothing.
-use Rattle.std.proofs.Common.{rules, eq-eqb, ne_eqb}
+use Rattle.std.proofs.Common.{eq-eqb, ne_eqb}
 use Rattle.digits.proofs.places.place_ahead.Goals as goal
 
 pub returns-then-going-eq-CW : goal.returns-then-going-eq-CW

@@ -1,5 +1,4 @@
 -- `digits::places::place_of` meets its contract. Assumes nothing.
-use Rattle.std.proofs.Common.{rules}
 use Rattle.digits.specs.Places.{place_of}
 use Rattle.digits.proofs.places.place_of.Goals as goal
 

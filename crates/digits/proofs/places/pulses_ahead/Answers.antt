@@ -1,5 +1,4 @@
 -- `digits::places::pulses_ahead` meets its contract. Assumes nothing.
-use Rattle.std.proofs.Common.{rules}
 use Rattle.digits.proofs.places.pulses_ahead.Goals as goal
 
 pub returns : goal.returns

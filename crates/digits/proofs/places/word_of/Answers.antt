@@ -1,5 +1,4 @@
 -- `digits::places::word_of` meets its contract. Assumes nothing.
-use Rattle.std.proofs.Common.{rules}
 use Rattle.digits.specs.Places.{word_of}
 use Rattle.digits.proofs.places.word_of.Goals as goal
 

@@ -1,5 +1,5 @@
 -- `digits::sets::mark` meets its contract. Assumes nothing.
-use Rattle.std.proofs.Common.{◌≡◌, ℕ, ◌*◌, ◌%◌, ◌^◌, ◌≤◌, arith, pow_mono, rules}
+use Rattle.std.proofs.Common.{◌≡◌, ℕ, ◌*◌, ◌%◌, ◌^◌, ◌≤◌, arith, pow_mono}
 use lib.Bits.{and_le_l}
 use Rattle.digits.proofs.SetLaws.{bit_in, bit_out}
 use Rattle.digits.proofs.sets.mark.Goals as goal

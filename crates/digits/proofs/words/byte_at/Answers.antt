@@ -1,5 +1,5 @@
 -- `digits::words::byte_at` meets its contract. Assumes nothing.
-use Rattle.std.proofs.Common.{arith, rules}
+use Rattle.std.proofs.Common.{arith}
 use Rattle.digits.specs.Words.{word}
 use Rattle.digits.proofs.PartLaws.{part_one}
 use Rattle.digits.proofs.words.byte_at.Goals as goal

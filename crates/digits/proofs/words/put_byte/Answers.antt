@@ -1,5 +1,5 @@
 -- `digits::words::put_byte` meets its contract. Assumes nothing.
-use Rattle.std.proofs.Common.{[], ◌∷◌, arith, rules}
+use Rattle.std.proofs.Common.{[], ◌∷◌, arith}
 use Rattle.digits.proofs.PutLaws.{stores_put}
 use Rattle.digits.proofs.words.put_byte.Goals as goal
 

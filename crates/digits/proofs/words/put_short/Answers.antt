@@ -1,5 +1,5 @@
 -- `digits::words::put_short` meets its contract. Assumes nothing.
-use Rattle.std.proofs.Common.{◌≡◌, suc, ◌+◌, arith, length-set, rules}
+use Rattle.std.proofs.Common.{◌≡◌, suc, ◌+◌, arith, length-set}
 use Rattle.digits.specs.Words.{word_bytes}
 use Rattle.digits.proofs.PutLaws.{stores_put}
 use Rattle.digits.proofs.words.put_short.Goals as goal

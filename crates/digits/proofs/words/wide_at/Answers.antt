@@ -1,5 +1,5 @@
 -- `digits::words::wide_at` meets its contract. Assumes nothing.
-use Rattle.std.proofs.Common.{arith, rules}
+use Rattle.std.proofs.Common.{arith}
 use Rattle.digits.proofs.WordLaws.{word_part}
 use Rattle.digits.proofs.words.wide_at.Goals as goal
 

@@ -1,6 +1,6 @@
 -- `digits::words::zero_front` meets its contract: after k turns the first k words are zero, and every other byte is as it was.
 -- Assumes nothing.
-use Rattle.std.proofs.Common.{◌≡◌, ◌-◌, ◌≤◌, length, sym, arith, rules}
+use Rattle.std.proofs.Common.{◌≡◌, sym, arith, rules}
 use Rattle.digits.proofs.PutLaws.{zeroed_to, zeroed_none, zeroed_next}
 use Rattle.digits.proofs.words.zero_front.Goals as goal
 

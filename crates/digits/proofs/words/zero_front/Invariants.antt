@@ -1,7 +1,7 @@
 -- `digits::words::zero_front` meets its contract: after k turns the first k words are zero, and every other byte is as it was.
 -- Assumes nothing.
-use Rattle.std.proofs.Common.{◌≡◌, ◌-◌, ◌≤◌, length, sym, arith, rules}
-use Rattle.digits.proofs.PutLaws.{zeroed_to, zeroed_none, zeroed_next}
+use Rattle.std.proofs.Common.{◌≡◌, ◌-◌, ◌≤◌, length}
+use Rattle.digits.proofs.PutLaws.{zeroed_to}
 use Rattle.digits.proofs.words.zero_front.Given as goal
 
 abbrev pub invariant-loop-k : goal.invariant-loop-k

@@ -1,5 +1,4 @@
 -- `drive::numbers::number_of` meets its contract. Assumes nothing.
-use borrow.Author.Rules.{rules}
 use Rattle.drive.specs.Numbers.{number_of}
 use Rattle.drive.proofs.numbers.number_of.Goals as goal
 

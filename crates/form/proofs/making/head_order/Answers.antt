@@ -1,7 +1,5 @@
 -- `form::making::head_order` meets its contract. Assumes nothing.
-use native.Mathlib.Omega.{arith}
 use Rattle.form.specs.Computing.{computing_form}
-use Rattle.form.proofs.TableLaws.{rest_above}
 use Rattle.form.proofs.making.head_order.Goals as goal
 
 pub returns-in-32 : goal.returns-in-32

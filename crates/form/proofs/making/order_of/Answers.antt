@@ -1,6 +1,5 @@
 -- `form::making::order_of` meets its contract. Assumes nothing.
 use Rattle.form.specs.Computing.{computing_form}
-use borrow.Author.Rules.{rules}
 use Rattle.form.proofs.making.order_of.Goals as goal
 
 pub returns-in-0 : goal.returns-in-0

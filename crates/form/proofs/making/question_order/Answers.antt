@@ -1,7 +1,5 @@
 -- `form::making::question_order` meets its contract. Assumes nothing.
-use native.Mathlib.Omega.{arith}
 use Rattle.form.specs.Computing.{computing_form}
-use Rattle.form.proofs.TableLaws.{rest_above}
 use Rattle.form.proofs.making.question_order.Goals as goal
 
 pub returns-in-22 : goal.returns-in-22

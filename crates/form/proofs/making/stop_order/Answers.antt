@@ -1,6 +1,5 @@
 -- `form::making::stop_order` meets its contract. Assumes nothing.
 use Rattle.form.specs.Computing.{computing_form}
-use borrow.Author.Rules.{rules}
 use Rattle.form.proofs.making.stop_order.Goals as goal
 
 pub returns-in-6 : goal.returns-in-6

@@ -5,7 +5,6 @@ use native.Mathlib.Omega.{arith}
 use Rattle.line.specs.Forms.{start_rows, stop_rows, setting_rows, question_rows, head_rows, request_rows}
 use Rattle.form.specs.Computing.{computing_form}
 use Rattle.form.proofs.TableLaws.{none_before}
-use borrow.Author.Rules.{rules}
 use Rattle.form.proofs.rows.first_row.Goals as goal
 
 pub returns-in-4276819 : goal.returns-in-4276819

@@ -2,7 +2,6 @@
 use mathlib.Core.Path.{refl}
 use mathlib.Core.List.{◌++◌}
 use native.Mathlib.Omega.{arith}
-use borrow.Author.Rules.{rules}
 use Rattle.line.specs.Forms.{question_rows, head_rows, request_rows}
 use Rattle.form.specs.Computing.{computing_form}
 use Rattle.form.proofs.TableLaws.{none_before}

@@ -1,7 +1,5 @@
 -- `form::tails::tail_of` meets its contract. Assumes nothing.
-use native.Mathlib.Omega.{arith}
 use Rattle.form.specs.Computing.{computing_form}
-use Rattle.form.proofs.TableLaws.{rest_above}
 use Rattle.form.proofs.tails.tail_of.Goals as goal
 
 pub returns-in-0 : goal.returns-in-0

@@ -1,6 +1,5 @@
 -- `line::cards::asks_on` meets its contract. Assumes nothing.
 use mathlib.Core.Path.{sym}
-use borrow.Author.Rules.{rules}
 use Rattle.line.specs.Forms.{asks_on}
 use Rattle.line.proofs.CardLaws.{asked_both}
 use Rattle.line.proofs.cards.asks_on.Goals as goal

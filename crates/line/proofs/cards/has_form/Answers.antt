@@ -1,6 +1,5 @@
 -- `line::cards::has_form` meets its contract. Assumes nothing.
 use mathlib.Core.Path.{sym}
-use borrow.Author.Rules.{rules}
 use Rattle.line.specs.Forms.{has_form}
 use Rattle.line.proofs.CardLaws.{formed_both}
 use Rattle.line.proofs.cards.has_form.Goals as goal

@@ -1,7 +1,6 @@
 -- `line::field_reading::byte_or_zero` meets its contract. Assumes nothing.
 use lib.ListN.{get_or-eq_default}
 use mathlib.Core.Path.{sym}
-use borrow.Author.Rules.{rules}
 use Rattle.line.proofs.field_reading.byte_or_zero.Goals as goal
 
 pub returns-else-at-s : goal.returns-else-at-s

@@ -6,7 +6,6 @@ use mathlib.Core.Path.{sym, ◌∙◌}
 use Rattle.text.specs.Text.{hex_value}
 use Rattle.line.proofs.ReadLaws.{byte_there, digit_above, hex_above}
 use Rattle.line.specs.Shapes.{read_channel}
-use borrow.Author.Rules.{rules}
 use Rattle.line.proofs.field_reading.channel_at.Goals as goal
 
 pub overflow_add-result : goal.overflow_add-result

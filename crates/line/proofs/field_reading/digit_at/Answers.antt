@@ -5,7 +5,6 @@ use native.Mathlib.Omega.{arith}
 use mathlib.Core.Path.{sym, ◌∙◌}
 use Rattle.line.proofs.ReadLaws.{byte_there, digit_above}
 use Rattle.line.specs.Shapes.{read_digit}
-use borrow.Author.Rules.{rules}
 use Rattle.line.proofs.field_reading.digit_at.Goals as goal
 
 pub overflow_add-result : goal.overflow_add-result

@@ -1,7 +1,6 @@
 -- `line::field_reading::fields_at` meets its contract. Assumes nothing.
 use Rattle.line.specs.Shapes.{read_fields}
 use Rattle.line.proofs.ReadLaws.{last_field}
-use borrow.Author.Rules.{rules}
 use Rattle.line.proofs.field_reading.fields_at.Goals as goal
 
 pub returns-in-Alone : goal.returns-in-Alone

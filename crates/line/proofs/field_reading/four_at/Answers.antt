@@ -3,7 +3,6 @@ use native.Mathlib.Omega.{arith}
 use borrow.Author.Tests.{le-leb, lt-leb}
 use Rattle.line.proofs.ReadLaws.{four_there}
 use Rattle.line.specs.Shapes.{read_four}
-use borrow.Author.Rules.{rules}
 use Rattle.line.proofs.field_reading.four_at.Goals as goal
 
 pub four_digits-requires : goal.four_digits-requires

@@ -1,5 +1,4 @@
 -- `line::field_reading::four_digits` meets its contract. Assumes nothing.
-use borrow.Author.Rules.{rules}
 use Rattle.line.proofs.field_reading.four_digits.Goals as goal
 
 pub returns : goal.returns

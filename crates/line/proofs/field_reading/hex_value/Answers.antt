@@ -1,7 +1,6 @@
 -- `line::field_reading::hex_value` meets its contract. Assumes nothing.
 use Rattle.text.specs.Text.{hex_value}
 use native.Mathlib.Omega.{arith}
-use borrow.Author.Rules.{rules}
 use Rattle.line.proofs.field_reading.hex_value.Goals as goal
 
 pub returns-then-is_digit : goal.returns-then-is_digit

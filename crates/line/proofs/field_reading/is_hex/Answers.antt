@@ -1,5 +1,4 @@
 -- `line::field_reading::is_hex` meets its contract. Assumes nothing.
-use borrow.Author.Rules.{rules}
 use Rattle.line.proofs.field_reading.is_hex.Goals as goal
 
 pub returns : goal.returns

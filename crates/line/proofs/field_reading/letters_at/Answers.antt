@@ -5,7 +5,6 @@ use native.Mathlib.Omega.{arith}
 use borrow.Author.Tests.{eq-eqb, ne_eqb}
 use Rattle.line.proofs.ReadLaws.{byte_there}
 use Rattle.line.specs.Shapes.{read_letters}
-use borrow.Author.Rules.{rules}
 use Rattle.line.proofs.field_reading.letters_at.Goals as goal
 
 pub overflow_add-at : goal.overflow_add-at

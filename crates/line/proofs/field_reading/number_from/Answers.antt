@@ -3,7 +3,6 @@ use native.Mathlib.Omega.{arith}
 use mathlib.Core.Path.{sym, ◌∙◌}
 use Rattle.line.proofs.ReadLaws.{number_there}
 use Rattle.line.specs.Shapes.{read_number}
-use borrow.Author.Rules.{rules}
 use Rattle.line.proofs.field_reading.number_from.Goals as goal
 
 pub overflow_add-result : goal.overflow_add-result

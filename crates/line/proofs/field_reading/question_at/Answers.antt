@@ -7,7 +7,6 @@ use native.Mathlib.Omega.{arith}
 use borrow.Author.Tests.{eq-eqb, ne_eqb}
 use Rattle.line.proofs.ReadLaws.{byte_there}
 use Rattle.line.specs.Shapes.{read_question}
-use borrow.Author.Rules.{rules}
 use Rattle.line.proofs.field_reading.question_at.Goals as goal
 
 pub overflow_add-result : goal.overflow_add-result

@@ -11,7 +11,6 @@ use borrow.Author.Tests.{eqb-true}
 use Rattle.line.proofs.ReadLaws.{byte_there}
 use Rattle.line.specs.declared.Fields.{Fields}
 use Rattle.line.specs.Shapes.{byte_at, read_number, read_signed}
-use borrow.Author.Rules.{rules}
 use Rattle.line.proofs.field_reading.signed_at.Goals as goal
 
 -- Where a sign stands, it is that of the number after it; where none does, the number is bare.

@@ -1,6 +1,5 @@
 -- `line::field_reading::x_at` meets its contract. Assumes nothing.
 use Rattle.line.specs.Shapes.{read_fields}
-use borrow.Author.Rules.{rules}
 use Rattle.line.proofs.field_reading.x_at.Goals as goal
 
 pub returns-in-Here : goal.returns-in-Here

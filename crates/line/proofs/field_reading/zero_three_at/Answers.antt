@@ -5,7 +5,6 @@ use native.Mathlib.Omega.{arith}
 use borrow.Author.Tests.{eq-eqb, ne_eqb, le-leb, lt-leb}
 use Rattle.line.proofs.ReadLaws.{four_there}
 use Rattle.line.specs.Shapes.{read_zero_three}
-use borrow.Author.Rules.{rules}
 use Rattle.line.proofs.field_reading.zero_three_at.Goals as goal
 
 pub four_digits-requires : goal.four_digits-requires

@@ -1,5 +1,4 @@
 -- `orders::settings::course_of` meets its contract. Assumes nothing.
-use borrow.Author.Rules.{rules}
 use Rattle.orders.proofs.settings.course_of.Goals as goal
 
 pub distance_written-requires : goal.distance_written-requires

@@ -1,7 +1,6 @@
 -- `orders::settings::with_setting` meets its contract. Assumes nothing.
 use Rattle.orders.proofs.ValueLaws.{switches_binary}
 use Rattle.orders.specs.Settings.{with_setting}
-use borrow.Author.Rules.{rules}
 use Rattle.orders.proofs.settings.with_setting.Goals as goal
 
 pub place_written-requires : goal.place_written-requires

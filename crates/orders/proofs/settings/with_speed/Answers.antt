@@ -1,5 +1,4 @@
 -- `orders::settings::with_speed` meets its contract. Assumes nothing.
-use borrow.Author.Rules.{rules}
 use Rattle.orders.proofs.settings.with_speed.Goals as goal
 
 pub returns : goal.returns

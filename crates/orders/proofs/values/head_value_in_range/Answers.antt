@@ -1,5 +1,4 @@
 -- `orders::values::head_value_in_range` meets its contract. Assumes nothing.
-use borrow.Author.Rules.{rules}
 use Rattle.orders.proofs.values.head_value_in_range.Goals as goal
 
 pub returns-in-ClearError : goal.returns-in-ClearError

@@ -1,6 +1,5 @@
 -- `orders::values::needs_remote` meets its contract. Assumes nothing.
 use Rattle.orders.specs.Values.{needs_remote}
-use borrow.Author.Rules.{rules}
 use Rattle.orders.proofs.values.needs_remote.Goals as goal
 
 pub returns-in-Go : goal.returns-in-Go

@@ -1,5 +1,4 @@
 -- `orders::values::start_in_range` meets its contract. Assumes nothing.
-use borrow.Author.Rules.{rules}
 use Rattle.orders.proofs.values.start_in_range.Goals as goal
 
 pub returns-in-Abs : goal.returns-in-Abs

@@ -1,6 +1,5 @@
 -- `orders::values::value_in_range` meets its contract. Assumes nothing.
 use Rattle.orders.specs.Values.{value_in_range}
-use borrow.Author.Rules.{rules}
 use Rattle.orders.proofs.values.value_in_range.Goals as goal
 
 pub returns-in-Go : goal.returns-in-Go

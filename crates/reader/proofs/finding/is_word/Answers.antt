@@ -1,7 +1,6 @@
 -- `reader::finding::is_word` meets its contract. Assumes nothing.
 use Rattle.form.specs.Computing.{computing_form}
 use Rattle.reader.proofs.LetterLaws.{number_row}
-use borrow.Author.Rules.{rules}
 use Rattle.reader.proofs.finding.is_word.Goals as goal
 
 -- NO_ROW is `row_count`, by computation.

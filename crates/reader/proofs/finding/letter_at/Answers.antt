@@ -2,7 +2,6 @@
 use mathlib.Core.Path.{sym}
 use lib.ListN.{drop, length-drop, drop_of_length-le, get_or-eq_default}
 use lib.Seq.{get_or-drop}
-use borrow.Author.Rules.{rules}
 use Rattle.reader.proofs.finding.letter_at.Goals as goal
 
 pub returns-then-n-s : goal.returns-then-n-s

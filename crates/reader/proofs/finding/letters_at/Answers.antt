@@ -1,13 +1,12 @@
 -- `reader::finding::letters_at` meets its contract. The invariant: so many letters stand there, and their number is known.
 -- Assumes nothing.
-use borrow.Author.Rules.{rules}
 use native.Mathlib.Omega.{arith}
 use native.Mathlib.Nat.{pow-suc, pow-le-pow_right}
 use native.Mathlib.Numerals.{add-one}
 use mathlib.Core.Path.{◌≡◌, refl}
 use mathlib.Core.Bool.{true, false}
-use Prim.Native.Nat.{suc, ◌-◌, ◌^◌, ◌<◌, ◌≤◌}
-use lib.ListN.{get_or, take, drop, length, length-drop}
+use Prim.Native.Nat.{suc, ◌<◌, ◌≤◌}
+use lib.ListN.{get_or, drop, length, length-drop}
 use Rattle.digits.specs.Words.{word}
 use Rattle.form.specs.Table.{packed}
 use Rattle.reader.specs.Finding.{is_letter, letters_at_front}

@@ -1,17 +1,10 @@
 -- `reader::finding::letters_at` meets its contract. The invariant: so many letters stand there, and their number is known.
 -- Assumes nothing.
-use borrow.Author.Rules.{rules}
-use native.Mathlib.Omega.{arith}
-use native.Mathlib.Nat.{pow-suc, pow-le-pow_right}
-use native.Mathlib.Numerals.{add-one}
-use mathlib.Core.Path.{◌≡◌, refl}
-use mathlib.Core.Bool.{true, false}
-use Prim.Native.Nat.{suc, ◌-◌, ◌^◌, ◌<◌, ◌≤◌}
-use lib.ListN.{get_or, take, drop, length, length-drop}
-use Rattle.digits.specs.Words.{word}
+use mathlib.Core.Path.{◌≡◌}
+use Prim.Native.Nat.{◌-◌, ◌^◌, ◌<◌, ◌≤◌}
+use lib.ListN.{take, drop}
 use Rattle.form.specs.Table.{packed}
-use Rattle.reader.specs.Finding.{is_letter, letters_at_front}
-use Rattle.reader.proofs.LetterLaws.{letters_within, letters_more, letters_end, letter_small, packed_more}
+use Rattle.reader.specs.Finding.{letters_at_front}
 use Rattle.reader.proofs.finding.letters_at.Given as goal
 
 abbrev pub invariant-loop-n : goal.invariant-loop-n

@@ -1,14 +1,12 @@
 -- `reader::finding::word_at` meets its contract. The invariant: the letters that are left are known by their number, and the
 -- longest word is among them. Assumes nothing.
-use borrow.Author.Rules.{rules}
 use native.Mathlib.Omega.{arith}
 use mathlib.Core.Path.{◌≡◌, sym, ap, ◌∙◌}
 use mathlib.Core.Bool.{true, false}
-use Prim.Native.Nat.{◌-◌, ◌≤◌}
-use lib.ListN.{length, take, drop}
+use lib.ListN.{take, drop}
 use Rattle.line.specs.Forms.{forms}
 use Rattle.form.specs.Table.{packed, rows_with}
-use Rattle.reader.specs.Finding.{some_row, longest, marked, letter_count, word_at}
+use Rattle.reader.specs.Finding.{some_row, longest, marked, word_at}
 use Rattle.reader.proofs.LetterLaws.{count_enough, packed_fewer, marked_none, word_here, word_shorter}
 use Rattle.reader.proofs.finding.word_at.Goals as goal
 

@@ -3,7 +3,6 @@ use mathlib.Core.Path.{◌≡◌}
 use lib.ListN.{length}
 use borrow.Author.Tests.{eq-eqb, ne_eqb}
 use Rattle.reader.specs.Finding.{case_by}
-use borrow.Author.Rules.{rules}
 use Rattle.reader.proofs.matching.case_at.Goals as goal
 
 pub returns-then-end-s : goal.returns-then-end-s

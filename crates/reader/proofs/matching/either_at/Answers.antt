@@ -1,12 +1,9 @@
 -- `reader::matching::either_at` meets its contract. The invariant: the row is that of the turn, and what is left to find from this
 -- turn on is what was to be found. Assumes nothing.
-use borrow.Author.Rules.{rules}
 use native.Mathlib.Omega.{arith}
 use native.Mathlib.Numerals.{add-one}
 use mathlib.Core.Path.{◌≡◌, refl, sym, ◌∙◌}
-use Prim.Native.Nat.{◌-◌, ◌≤◌}
-use Rattle.form.specs.Table.{Numbers}
-use Rattle.reader.proofs.FindingLaws.{rows_in_turn, left_to_find, found, missed}
+use Rattle.reader.proofs.FindingLaws.{left_to_find, found, missed}
 use Rattle.reader.proofs.matching.either_at.Goals as goal
 
 pub loop-turn-init : goal.loop-turn-init

@@ -3,7 +3,6 @@ use mathlib.Core.Path.{sym}
 use borrow.Author.Tests.{le-leb, lt-leb}
 use Rattle.reader.specs.Finding.{order_at}
 use Rattle.reader.proofs.FindingLaws.{no_order}
-use borrow.Author.Rules.{rules}
 use Rattle.reader.proofs.matching.order_at.Goals as goal
 
 pub returns-then-letters-eq0 : goal.returns-then-letters-eq0

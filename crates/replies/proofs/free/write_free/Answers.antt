@@ -1,9 +1,7 @@
 -- `replies::free::write_free` meets its contract. Assumes nothing.
 use mathlib.Core.Path.{refl}
-use mathlib.Core.List.{[], ◌∷◌}
 use native.Mathlib.Omega.{arith}
 use lib.ListN.{length-set}
-use borrow.Author.Rules.{rules}
 use Rattle.digits.proofs.PutLaws.{stores_put}
 use Rattle.replies.specs.Replies.{free_text}
 use Rattle.replies.proofs.free.write_free.Goals as goal

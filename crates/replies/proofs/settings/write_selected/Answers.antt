@@ -1,6 +1,5 @@
 -- `replies::settings::write_selected` meets its contract. Assumes nothing.
 use borrow.Author.Tests.{eq-eqb, ne_eqb}
-use borrow.Author.Rules.{rules}
 use Rattle.text.specs.Text.{bytes}
 use Rattle.replies.specs.Replies.{selected_text}
 use Rattle.replies.proofs.settings.write_selected.Goals as goal

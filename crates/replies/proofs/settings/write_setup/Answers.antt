@@ -2,7 +2,6 @@
 use mathlib.Core.Path.{refl}
 use native.Mathlib.Omega.{arith}
 use lib.ListN.{length-set}
-use borrow.Author.Rules.{rules}
 use Rattle.digits.proofs.PutLaws.{stores_put}
 use Rattle.replies.specs.Replies.{motor_text}
 use Rattle.replies.proofs.ReplyLaws.{setup_small}

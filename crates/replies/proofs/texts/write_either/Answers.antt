@@ -1,5 +1,4 @@
 -- `replies::texts::write_either` meets its contract. Assumes nothing.
-use borrow.Author.Rules.{rules}
 use Rattle.replies.proofs.texts.write_either.Goals as goal
 
 pub returns-then-on : goal.returns-then-on

@@ -1,5 +1,4 @@
 -- `replies::texts::write_error` meets its contract. Assumes nothing.
-use borrow.Author.Rules.{rules}
 use Rattle.text.specs.Text.{bytes}
 use Rattle.replies.specs.Replies.{error_text}
 use Rattle.replies.proofs.texts.write_error.Goals as goal

@@ -1,8 +1,6 @@
 -- `table::head::head_zero` meets its contract: every turn finds eight bytes more to be zero, from 8 on, or ends with eight that
 -- are not. Assumes nothing.
 use mathlib.Core.Path.{◌≡◌, sym}
-use mathlib.Core.Bool.{true}
-use Prim.Native.Nat.{◌-◌, ◌≤◌}
 use native.Mathlib.Omega.{arith}
 use lib.Dec.{eqb}
 use borrow.Author.Rules.{rules}

@@ -1,18 +1,9 @@
 -- `table::head::head_zero` meets its contract: every turn finds eight bytes more to be zero, from 8 on, or ends with eight that
 -- are not. Assumes nothing.
-use mathlib.Core.Path.{◌≡◌, sym}
+use mathlib.Core.Path.{◌≡◌}
 use mathlib.Core.Bool.{true}
 use Prim.Native.Nat.{◌-◌, ◌≤◌}
-use native.Mathlib.Omega.{arith}
-use lib.Dec.{eqb}
-use borrow.Author.Rules.{rules}
-use borrow.Author.Tests.{eq-eqb, ne_eqb}
-use Rattle.digits.specs.Words.{word}
-use Rattle.digits.specs.Bytes.{part}
-use Rattle.digits.proofs.WordLaws.{zero_part}
-use Rattle.motor.proofs.SoundLaws.{and_true}
-use Rattle.table.specs.Layout.{head_used}
-use Rattle.table.proofs.LoopLaws.{zero_to, zero_first, zero_next, zero_fails}
+use Rattle.table.proofs.LoopLaws.{zero_to}
 use Rattle.table.proofs.head.head_zero.Given as goal
 
 abbrev pub invariant-loop-k : goal.invariant-loop-k

@@ -1,6 +1,5 @@
 -- `table::head::is_few` meets its contract. Assumes nothing.
 use mathlib.Core.Path.{sym}
-use borrow.Author.Rules.{rules}
 use borrow.Author.Tests.{le-leb}
 use Rattle.digits.proofs.CountLaws.{in_most}
 use Rattle.table.proofs.head.is_few.Goals as goal

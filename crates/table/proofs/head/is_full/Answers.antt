@@ -1,6 +1,5 @@
 -- `table::head::is_full` meets its contract. Assumes nothing.
 use native.Mathlib.Omega.{arith}
-use borrow.Author.Rules.{rules}
 use Rattle.table.specs.Layout.{card_full}
 use Rattle.table.proofs.TableLaws.{all_busy}
 use Rattle.table.proofs.head.is_full.Goals as goal

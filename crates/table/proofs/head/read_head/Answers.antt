@@ -1,5 +1,4 @@
 -- `table::head::read_head` meets its contract. Assumes nothing.
-use borrow.Author.Rules.{rules}
 use Rattle.table.specs.Layout.{head_of}
 use Rattle.table.proofs.head.read_head.Goals as goal
 

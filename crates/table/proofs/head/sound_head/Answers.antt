@@ -1,7 +1,6 @@
 -- `table::head::sound_head` meets its contract. Assumes nothing.
 use mathlib.Core.Path.{sym}
 use lib.Dec.{leb}
-use borrow.Author.Rules.{rules}
 use Rattle.digits.specs.Words.{bits_set}
 use Rattle.motor.proofs.SoundLaws.{and_true, and_false}
 use Rattle.table.specs.Layout.{most_busy}

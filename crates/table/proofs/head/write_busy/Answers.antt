@@ -1,5 +1,4 @@
 -- `table::head::write_busy` meets its contract. Assumes nothing.
-use borrow.Author.Rules.{rules}
 use native.Mathlib.Omega.{arith}
 use Rattle.digits.proofs.PutLaws.{stores_put}
 use Rattle.table.specs.Layout.{set_bytes}

@@ -1,7 +1,6 @@
 -- `table::head::write_card` meets its contract. Assumes nothing.
 use mathlib.Core.List.{[], ◌∷◌}
 use native.Mathlib.Omega.{arith}
-use borrow.Author.Rules.{rules}
 use Rattle.digits.proofs.PutLaws.{stores_put}
 use Rattle.table.proofs.head.write_card.Goals as goal
 

@@ -1,6 +1,5 @@
 -- `table::head::write_head` meets its contract. Assumes nothing.
 use mathlib.Core.List.{[], ◌∷◌, ◌++◌}
-use borrow.Author.Rules.{rules}
 use native.Mathlib.Omega.{arith}
 use Rattle.digits.proofs.PutLaws.{put_after}
 use Rattle.table.specs.Layout.{set_bytes, with_head}

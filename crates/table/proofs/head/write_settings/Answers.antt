@@ -1,6 +1,5 @@
 -- `table::head::write_settings` meets its contract. Assumes nothing.
 use mathlib.Core.List.{[], ◌∷◌}
-use borrow.Author.Rules.{rules}
 use native.Mathlib.Omega.{arith}
 use Rattle.digits.proofs.PutLaws.{stores_put}
 use Rattle.table.proofs.head.write_settings.Goals as goal

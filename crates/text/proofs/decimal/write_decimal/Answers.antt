@@ -4,7 +4,6 @@ use mathlib.Core.Path.{◌≡◌, sym, ◌∙◌}
 use Prim.Native.Nat.{ℕ}
 use lib.ListN.{length}
 use Rattle.std.specs.Prelude.{max}
-use borrow.Author.Rules.{rules}
 use Rattle.text.specs.Text.{decimal, digit_count}
 use Rattle.text.proofs.TextLaws.{length_decimal}
 use Rattle.text.proofs.decimal.write_decimal.Goals as goal

@@ -1,12 +1,9 @@
 -- `text::decimal::write_signed` meets its contract: the sign is written first, and what the part after it is left with is put
 -- after the sign. Assumes nothing.
-use mathlib.Core.Path.{◌≡◌, ◌∙◌}
-use Prim.Native.Nat.{ℕ, ◌+◌, ◌-◌, ◌≤◌}
+use Prim.Native.Nat.{ℕ, ◌+◌, ◌≤◌}
 use mathlib.Core.List.{List}
 use native.Mathlib.Omega.{arith}
 use lib.ListN.{length, set, length-set, length-take, length-drop}
-use borrow.Author.Rules.{rules}
-use borrow.Rule.Slice.PartMut.{same_len_mid}
 use Rattle.text.specs.Text.{decimal, distance, sign_byte, signed_decimal}
 use Rattle.digits.proofs.PutLaws.{put_rest, put_front}
 use Rattle.text.proofs.TextLaws.{length_signed}
