@@ -41,7 +41,7 @@ use Rattle.commands.specs.Changing.{flagged}
 use Rattle.obeying.specs.Taking.{CommandAfter, order_in}
 use Rattle.urqolina.specs.Calls.{TableAfter, TickAfter, fresh_call, command_call, reading_call, tick_call}
 use Rattle.laws.specs.Computing.{computing_laws}
-use Rattle.laws.specs.Sequences.{Library, Call, urqolina, command, reading, tick, After, Beginning, ran}
+use Rattle.laws.specs.Sequences.{Library, Call, command, reading, tick, After, Beginning, ran}
 use Rattle.laws.specs.Deeds.{Deed, starts, stops, speeds, sets, reads, ticks, pauses, rests, deed, is_tick, verdict, order_taken}
 use Rattle.laws.specs.Ledger.{count_at, Account, Travel}
 use Rattle.laws.specs.Numbers.{Numbers, Replies, sizes_right, starting, asks}

@@ -1,7 +1,7 @@
 -- A whole double of up to 2 to the 53 is the double of its sign and its size, and the other way round; so -0 is that of a minus and 0.
 -- Assumes nothing.
 use mathlib.Core.Path.{◌≡◌, refl, sym, ap, ◌∙◌}
-use mathlib.Core.Bool.{Bool, true, false, true≢false}
+use mathlib.Core.Bool.{Bool, true, true≢false}
 use Prim.Native.Nat.{ℕ, ◌*◌, ◌/◌, ◌%◌, ◌≤◌}
 use native.Mathlib.Nat.{mul-one, mul-div_cancel, mul-mod_left}
 use lib.Dec.{T}

@@ -1,7 +1,7 @@
 -- Document 01, "Bench cases": the texts that *bench* prints. "It prints, per line, the number, then for C a space and the reply or
 -- `-`; for T, per channel with a nonzero net, a space, x, colon, signed net."
 use Prim.Native.Char.{code}
-use Rattle.std.specs.Prelude.{ℕ, zero, suc, ◌+◌, ◌-◌, ◌/◌, ◌%◌, List, [], ◌∷◌, ◌++◌, cond, take, drop, get_or, eqb}
+use Rattle.std.specs.Prelude.{ℕ, ◌+◌, ◌-◌, ◌/◌, ◌%◌, List, [], ◌∷◌, ◌++◌, cond, take, drop, get_or, eqb}
 use Rattle.digits.specs.Bytes.{gather}
 use Rattle.digits.specs.Words.{word}
 use Rattle.digits.specs.Places.{origin, place_of}

@@ -1,17 +1,17 @@
 -- Demand 3 over the number of motors that may be busy: one proof for both cards. Assumes nothing.
-use mathlib.Core.Path.{◌≡◌, refl, sym, ap, ◌∙◌}
+use mathlib.Core.Path.{◌≡◌, refl, sym, ◌∙◌}
 use mathlib.Core.List.{List, [], ◌∷◌}
 use mathlib.Core.Bool.{Bool, true, false, ◌&&◌, cond}
-use Prim.Native.Nat.{ℕ, ◌-◌, ◌%◌, ◌≤◌, ◌<◌}
+use Prim.Native.Nat.{ℕ, ◌-◌, ◌%◌, ◌≤◌}
 use native.Mathlib.Omega.{arith}
 use lib.ListN.{length}
 use lib.Dec.{eqb, leb}
-use borrow.Author.Tests.{eq-eqb, ne_eqb, eqb-true, eqb-false, le-leb, lt-leb}
+use borrow.Author.Tests.{eqb-true, eqb-false, le-leb, lt-leb}
 use Rattle.digits.specs.Bytes.{put}
-use Rattle.digits.specs.Words.{how_many, bits_set}
+use Rattle.digits.specs.Words.{bits_set}
 use Rattle.digits.proofs.CountLaws.{many_same}
 use Rattle.text.specs.Text.{digit_byte}
-use Rattle.motor.specs.Sound.{busy, sound_motor}
+use Rattle.motor.specs.Sound.{busy}
 use Rattle.motor.proofs.SoundLaws.{and_r}
 use Rattle.drive.specs.declared.Verdict.TheVariants.{Done, Full}
 use Rattle.drive.specs.Numbers.{number_of}

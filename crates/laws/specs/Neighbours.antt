@@ -9,7 +9,7 @@ use Rattle.line.specs.declared.Order.TheVariants.{Go, Stop, StopAll, ChangeSpeed
 use Rattle.line.specs.declared.Parsed.TheVariants.{Is}
 use Rattle.line.specs.Forms.{order_of}
 use Rattle.table.specs.Layout.{head_of, record_at, motor_at}
-use Rattle.laws.specs.Sequences.{Library, Call, command, reading, tick, after}
+use Rattle.laws.specs.Sequences.{Library, Call, after}
 use Rattle.laws.specs.Deeds.{starts, stops, pauses, rests, names, deed_of, deed}
 use Rattle.laws.specs.Ledger.{sets_off}
 use Rattle.laws.specs.Numbers.{is_command}

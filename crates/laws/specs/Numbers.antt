@@ -18,7 +18,7 @@ use Rattle.obeying.specs.Taking.{order_in}
 use Rattle.commands.specs.Changing.{changed, flagged}
 use Rattle.urqolina.specs.Calls.{counts}
 use Rattle.laws.specs.Sequences.{Library, Call, command, reading, tick, after}
-use Rattle.laws.specs.Deeds.{verdict, reads, order_taken}
+use Rattle.laws.specs.Deeds.{verdict, order_taken}
 use Rattle.laws.specs.ReadBack.{is_some}
 
 -- a call is a command

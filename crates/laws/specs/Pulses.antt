@@ -21,7 +21,7 @@ use Rattle.status.specs.Status.{mode_letter}
 use Rattle.table.specs.Layout.{head_of, paused, most_busy, motor_at}
 use Rattle.commands.specs.Judging.{judge_where}
 use Rattle.table.specs.Sound.{sound_table}
-use Rattle.laws.specs.Sequences.{Library, Call, command, tick, after, run, Beginning, from_fresh, ran, never}
+use Rattle.laws.specs.Sequences.{Library, Call, command, after, run, Beginning, from_fresh, ran, never}
 use Rattle.laws.specs.Deeds.{Deed, starts, stops, speeds, sets, reads, ticks, pauses, rests, deed}
 use Rattle.laws.specs.Neighbours.{listed}
 use Rattle.laws.specs.Ledger.{count_at, cw_pulses, ccw_pulses, against, Account, no_drive, takes_ticks, sets_off, course_in, account, ticks_in, Travel, no_travel, travel, settings}

@@ -6,7 +6,6 @@ use lib.Dec.{T}
 use lib.Ieee.{Float, nan, inf, fin, binary64, div, of_bits, is_nan}
 use lib.Ieee.Bits.{nan_bits_is, nan_bits_above}
 use borrow.Author.Tests.{lt-ltb, le-ltb}
-use borrow.Author.Rules.{rules}
 use Rattle.doubles.proofs.double_of.Goals as goal
 
 -- 0.0 / 0.0 is the one NaN

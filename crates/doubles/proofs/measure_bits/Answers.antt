@@ -1,7 +1,6 @@
 -- `doubles::measure_bits` meets its contract. Assumes nothing.
 use mathlib.Core.Path.{sym, ◌∙◌}
 use native.Mathlib.Omega.{arith}
-use borrow.Author.Rules.{rules}
 use Rattle.doubles.proofs.DoubleLaws.{field_top, field_large, field_mixed, field_zero, field_small}
 use Rattle.doubles.proofs.measure_bits.Goals as goal
 

@@ -2,7 +2,6 @@
 use native.Mathlib.Omega.{arith}
 use lib.Pow.{pow_pos}
 use borrow.Author.Tests.{eq-eqb, ne_eqb}
-use borrow.Author.Rules.{rules}
 use Rattle.doubles.proofs.DoubleLaws.{shifted, shifted_back, told}
 use Rattle.doubles.proofs.measure_digits.Goals as goal
 

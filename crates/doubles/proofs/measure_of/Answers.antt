@@ -6,7 +6,6 @@ use lib.Dec.{T}
 use lib.Ieee.{Float, nan, inf, fin, binary64, up, down, eq, ne, is_nan}
 use lib.Ieee.Bits.{of_bits-to_bits}
 use borrow.Author.Tests.{eq-eqb}
-use borrow.Author.Rules.{rules}
 use Rattle.doubles.specs.declared.Measure.TheVariants.{Broken}
 use Rattle.doubles.specs.Doubles.{is_whole}
 use Rattle.doubles.specs.Measures.{measure_of}

@@ -3,7 +3,6 @@ use Rattle.obeying.proofs.TakingLaws.{unasked_told}
 use Rattle.obeying.specs.Taking.{obeyed}
 use borrow.Author.Tests.{leb-true}
 use Rattle.line.specs.Made.{order_made}
-use borrow.Author.Rules.{rules}
 use Rattle.obeying.proofs.obey.Goals as goal
 
 pub tell_channel-requires : goal.tell_channel-requires

@@ -1,7 +1,6 @@
 -- `obeying::result_of` meets its contract. Assumes nothing.
 use native.Mathlib.Omega.{arith}
 use Rattle.drive.proofs.NumberLaws.{numbered}
-use borrow.Author.Rules.{rules}
 use Rattle.obeying.proofs.result_of.Goals as goal
 
 pub overflow_add-result : goal.overflow_add-result

@@ -1,6 +1,5 @@
 -- `obeying::take_line` meets its contract. Assumes nothing.
 use Rattle.obeying.specs.Taking.{taken}
-use borrow.Author.Rules.{rules}
 use Rattle.obeying.proofs.take_line.Goals as goal
 
 pub take_order-requires : goal.take_order-requires

@@ -9,7 +9,6 @@ use Rattle.line.specs.Forms.{has_form}
 use Rattle.table.specs.Layout.{head_of}
 use Rattle.table.proofs.TableLaws.{sound_length}
 use Rattle.commands.specs.Judging.{judge}
-use borrow.Author.Rules.{rules}
 use Rattle.obeying.proofs.take_order.Goals as goal
 
 pub judge_order-v-requires : goal.judge_order-v-requires

@@ -4,7 +4,6 @@ use Rattle.commands.specs.Changing.{changed}
 use Rattle.obeying.specs.Taking.{obeyed}
 use Rattle.obeying.proofs.TakingLaws.{setup_sound}
 use Rattle.table.proofs.TableLaws.{sound_length, sound_motor_at}
-use borrow.Author.Rules.{rules}
 use Rattle.obeying.proofs.tell_channel.Goals as goal
 
 pub read_head-h-requires : goal.read_head-h-requires

@@ -3,7 +3,6 @@ use Rattle.commands.specs.Answers.{answer}
 use Rattle.commands.specs.Changing.{changed}
 use Rattle.obeying.specs.Taking.{obeyed}
 use Rattle.table.proofs.TableLaws.{sound_length}
-use borrow.Author.Rules.{rules}
 use Rattle.obeying.proofs.tell_head.Goals as goal
 
 pub read_head-requires : goal.read_head-requires

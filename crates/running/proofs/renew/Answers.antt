@@ -1,6 +1,5 @@
 -- `running::renew` meets its contract. Assumes nothing.
 use mathlib.Core.Path.{◌≡◌, refl, sym}
-use borrow.Author.Rules.{rules}
 use Rattle.urqolina.specs.Calls.{fresh_call}
 use Rattle.running.specs.Running.{renewed}
 use Rattle.running.proofs.renew.Goals as goal

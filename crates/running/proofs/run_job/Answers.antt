@@ -2,7 +2,6 @@
 use Prim.Native.Char.{code}
 use mathlib.Core.Path.{refl, sym, ◌∙◌}
 use native.Mathlib.Omega.{arith}
-use borrow.Author.Rules.{rules}
 use Rattle.text.specs.Text.{bytes}
 use Rattle.running.proofs.RunLaws.{send_two, waits_few}
 use Rattle.jobs.proofs.OutLaws.{set_put, whole_rest}

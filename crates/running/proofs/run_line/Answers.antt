@@ -3,7 +3,6 @@ use Prim.Native.Nat.{◌≤◌}
 use Prim.Native.Char.{code}
 use native.Mathlib.Omega.{arith}
 use lib.ListN.{length, length-append}
-use borrow.Author.Rules.{rules}
 use Rattle.running.specs.Running.{job_done, line_done}
 use Rattle.jobs.specs.Jobs.{job_of}
 use Rattle.running.proofs.RunLaws.{job_within}

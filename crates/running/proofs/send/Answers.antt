@@ -2,7 +2,6 @@
 use mathlib.Core.Path.{◌≡◌, refl, ap}
 use native.Mathlib.Omega.{arith}
 use lib.ListN.{replicate}
-use borrow.Author.Rules.{rules}
 use Rattle.urqolina.specs.Calls.{command_call}
 use Rattle.running.specs.Running.{sent}
 use Rattle.running.proofs.RunLaws.{command_within}

@@ -1,7 +1,6 @@
 -- `running::tick_once` meets its contract. Assumes nothing.
 use mathlib.Core.Path.{◌≡◌, ap}
 use lib.ListN.{replicate}
-use borrow.Author.Rules.{rules}
 use Rattle.urqolina.specs.Calls.{tick_call}
 use Rattle.running.proofs.TickBounds.{tick_within}
 use Rattle.running.proofs.tick_once.Goals as goal

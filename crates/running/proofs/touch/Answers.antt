@@ -1,6 +1,5 @@
 -- `running::touch` meets its contract. Assumes nothing.
 use mathlib.Core.Path.{◌≡◌, refl, sym}
-use borrow.Author.Rules.{rules}
 use Rattle.urqolina.specs.Calls.{reading_call}
 use Rattle.running.specs.Running.{touched}
 use Rattle.running.proofs.touch.Goals as goal

@@ -1,12 +1,12 @@
 -- `running::wait` meets its contract. Assumes nothing.
-use Prim.Native.Nat.{◌+◌, ◌*◌, ◌-◌, ◌≤◌}
+use Prim.Native.Nat.{◌+◌, ◌*◌, ◌-◌}
 use mathlib.Core.Path.{◌≡◌, refl, sym, ap, ◌∙◌}
 use native.Mathlib.Omega.{arith}
-use lib.ListN.{length, replicate}
+use lib.ListN.{replicate}
 use Rattle.urqolina.specs.Calls.{tick_call}
 use Rattle.jobs.specs.Texts.{nets_after}
 use Rattle.running.specs.Running.{waited}
-use Rattle.jobs.specs.Bounds.{NetsWithin, most_count, most_net}
+use Rattle.jobs.specs.Bounds.{most_count, most_net}
 use Rattle.running.proofs.TickBounds.{tick_within}
 use Rattle.jobs.proofs.NetLaws.{none_within, within_more, nets_within}
 use Rattle.running.proofs.RunLaws.{waited_more}

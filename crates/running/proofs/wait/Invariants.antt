@@ -1,15 +1,9 @@
 -- `running::wait` meets its contract. Assumes nothing.
-use Prim.Native.Nat.{◌+◌, ◌*◌, ◌-◌, ◌≤◌}
-use mathlib.Core.Path.{◌≡◌, refl, sym, ap, ◌∙◌}
-use native.Mathlib.Omega.{arith}
-use lib.ListN.{length, replicate}
-use Rattle.urqolina.specs.Calls.{tick_call}
-use Rattle.jobs.specs.Texts.{nets_after}
+use Prim.Native.Nat.{◌*◌, ◌-◌, ◌≤◌}
+use mathlib.Core.Path.{◌≡◌}
+use lib.ListN.{length}
 use Rattle.running.specs.Running.{waited}
-use Rattle.jobs.specs.Bounds.{NetsWithin, most_count, most_net}
-use Rattle.running.proofs.TickBounds.{tick_within}
-use Rattle.jobs.proofs.NetLaws.{none_within, within_more, nets_within}
-use Rattle.running.proofs.RunLaws.{waited_more}
+use Rattle.jobs.specs.Bounds.{NetsWithin, most_count}
 use Rattle.running.proofs.wait.Given as goal
 
 abbrev pub invariant-loop-left : goal.invariant-loop-left

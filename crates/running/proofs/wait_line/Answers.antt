@@ -1,6 +1,5 @@
 -- `running::wait_line` meets its contract. Assumes nothing.
 use mathlib.Core.Path.{refl}
-use borrow.Author.Rules.{rules}
 use Rattle.running.specs.Running.{ticked}
 use Rattle.running.proofs.wait_line.Goals as goal
 

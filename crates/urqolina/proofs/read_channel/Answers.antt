@@ -1,5 +1,4 @@
 -- `urqolina::read_channel` meets its contract. Assumes nothing.
-use borrow.Author.Rules.{rules}
 use Rattle.urqolina.proofs.read_channel.Goals as goal
 
 pub returns : goal.returns

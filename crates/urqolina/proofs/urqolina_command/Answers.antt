@@ -5,7 +5,6 @@ use Rattle.urqolina.proofs.Refusals.{command_size, command_unsound}
 use Rattle.line.proofs.OrderLaws.{line_made}
 use Rattle.drive.specs.Numbers.{number_of}
 use Rattle.urqolina.specs.Calls.{command_call}
-use borrow.Author.Rules.{rules}
 use Rattle.urqolina.proofs.urqolina_command.Goals as goal
 
 pub take_line-requires : goal.take_line-requires

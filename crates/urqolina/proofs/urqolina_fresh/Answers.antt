@@ -2,7 +2,6 @@
 use native.Mathlib.Omega.{arith}
 use Rattle.drive.specs.Numbers.{number_of}
 use Rattle.urqolina.specs.Calls.{fresh_call}
-use borrow.Author.Rules.{rules}
 use Rattle.urqolina.proofs.CallLaws.{sizes_card}
 use Rattle.urqolina.proofs.urqolina_fresh.Goals as goal
 

@@ -6,7 +6,6 @@ use Rattle.urqolina.proofs.Refusals.{reading_size, reading_unsound}
 use Rattle.drive.specs.Numbers.{number_of}
 use Rattle.urqolina.specs.Calls.{reading_call}
 use Rattle.table.proofs.TableLaws.{sound_length, sound_sealed}
-use borrow.Author.Rules.{rules}
 use Rattle.urqolina.proofs.urqolina_reading.Goals as goal
 
 pub overflow_cast-channel : goal.overflow_cast-channel

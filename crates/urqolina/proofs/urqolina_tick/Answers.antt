@@ -4,7 +4,6 @@ use Rattle.urqolina.proofs.CallLaws.{sizes_pulses}
 use Rattle.urqolina.proofs.Refusals.{tick_size, tick_unsound}
 use Rattle.drive.specs.Numbers.{number_of}
 use Rattle.urqolina.specs.Calls.{tick_call}
-use borrow.Author.Rules.{rules}
 use Rattle.urqolina.proofs.urqolina_tick.Goals as goal
 
 pub tick_all-requires : goal.tick_all-requires

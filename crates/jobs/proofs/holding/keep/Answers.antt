@@ -5,7 +5,6 @@ use native.Mathlib.Numerals.{add-one}
 use lib.ListN.{length, take}
 use lib.Seq.{length-take-le, take-suc-set}
 use borrow.Author.Tests.{lt-ltb, le-ltb}
-use borrow.Author.Rules.{rules}
 use Rattle.jobs.specs.Holding.{kept}
 use Rattle.jobs.proofs.holding.keep.Goals as goal
 

@@ -1,13 +1,11 @@
 -- `jobs::nets::add_counts` meets its contract. Assumes nothing.
-use Prim.Native.Nat.{◌-◌, ◌≤◌}
 use mathlib.Core.Path.{◌≡◌, sym}
 use native.Mathlib.Numerals.{add-one}
 use native.Mathlib.Omega.{arith}
 use lib.ListN.{get_or, length}
-use borrow.Author.Rules.{rules}
 use Rattle.digits.specs.Places.{origin}
 use Rattle.jobs.proofs.OutLaws.{within_any}
-use Rattle.jobs.proofs.NetLaws.{count_at, nets_up_to, up_to_none, up_to_all, up_to_length, up_to_next, up_to_more}
+use Rattle.jobs.proofs.NetLaws.{count_at, up_to_none, up_to_all, up_to_length, up_to_next, up_to_more}
 use Rattle.jobs.proofs.nets.add_counts.Goals as goal
 
 pub loop-c-init : goal.loop-c-init

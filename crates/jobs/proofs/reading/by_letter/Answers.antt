@@ -2,7 +2,6 @@
 use Prim.Native.Char.{code}
 use mathlib.Core.Path.{◌≡◌}
 use borrow.Author.Tests.{eq-eqb, ne_eqb}
-use borrow.Author.Rules.{rules}
 use Rattle.jobs.specs.Jobs.{lettered}
 use Rattle.jobs.proofs.reading.by_letter.Goals as goal
 

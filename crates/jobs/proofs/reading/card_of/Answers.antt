@@ -1,6 +1,5 @@
 -- `jobs::reading::card_of` meets its contract. Assumes nothing.
 use borrow.Author.Tests.{eq-eqb, ne_eqb}
-use borrow.Author.Rules.{rules}
 use Rattle.jobs.specs.Jobs.{card_of}
 use Rattle.jobs.proofs.reading.card_of.Goals as goal
 

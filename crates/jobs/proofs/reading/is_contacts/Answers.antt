@@ -1,5 +1,4 @@
 -- `jobs::reading::is_contacts` meets its contract. Assumes nothing.
-use borrow.Author.Rules.{rules}
 use Rattle.jobs.proofs.reading.is_contacts.Goals as goal
 
 pub returns : goal.returns

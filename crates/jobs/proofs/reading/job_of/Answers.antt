@@ -7,7 +7,6 @@ use native.Mathlib.Omega.{arith}
 use mathlib.Core.Path.{◌≡◌, sym}
 use borrow.Author.Tests.{eq-eqb, ne_eqb}
 use Rattle.jobs.proofs.JobLaws.{job_short, job_two}
-use borrow.Author.Rules.{rules}
 use Rattle.jobs.proofs.reading.job_of.Goals as goal
 
 pub returns-then-line-lt2 : goal.returns-then-line-lt2

@@ -1,7 +1,6 @@
 -- `jobs::reading::touch_of` meets its contract. Assumes nothing.
 use native.Mathlib.Omega.{arith}
 use borrow.Author.Tests.{ne_eqb}
-use borrow.Author.Rules.{rules}
 use Rattle.jobs.specs.Jobs.{touch_of}
 use Rattle.jobs.proofs.reading.touch_of.Goals as goal
 

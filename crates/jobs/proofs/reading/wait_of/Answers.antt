@@ -5,7 +5,6 @@ use mathlib.Core.Bool.{◌&&◌}
 use native.Mathlib.Omega.{arith}
 use lib.Dec.{eqb, leb}
 use lib.ListN.{length, get_or}
-use borrow.Author.Rules.{rules}
 use Rattle.text.proofs.TextLaws.{digits_within}
 use Rattle.jobs.proofs.JobLaws.{read_parts, wait_read, wait_nothing, ticks_within}
 use Rattle.jobs.proofs.reading.wait_of.Goals as goal

@@ -1,9 +1,7 @@
 -- `jobs::texts::copy` meets its contract. Assumes nothing.
-use Prim.Native.Nat.{◌-◌, ◌≤◌}
 use mathlib.Core.Path.{◌≡◌, refl, sym}
 use native.Mathlib.Omega.{arith}
-use lib.ListN.{length, take, length-set}
-use Rattle.digits.specs.Bytes.{put}
+use lib.ListN.{length-set}
 use Rattle.digits.proofs.PutLaws.{put_none}
 use Rattle.jobs.proofs.OutLaws.{copy_more}
 use Rattle.jobs.proofs.texts.copy.Goals as goal

@@ -1,11 +1,8 @@
 -- `jobs::texts::copy` meets its contract. Assumes nothing.
 use Prim.Native.Nat.{◌-◌, ◌≤◌}
-use mathlib.Core.Path.{◌≡◌, refl, sym}
-use native.Mathlib.Omega.{arith}
-use lib.ListN.{length, take, length-set}
+use mathlib.Core.Path.{◌≡◌}
+use lib.ListN.{length, take}
 use Rattle.digits.specs.Bytes.{put}
-use Rattle.digits.proofs.PutLaws.{put_none}
-use Rattle.jobs.proofs.OutLaws.{copy_more}
 use Rattle.jobs.proofs.texts.copy.Given as goal
 
 abbrev pub invariant-loop-i : goal.invariant-loop-i

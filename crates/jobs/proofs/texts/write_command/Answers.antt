@@ -1,11 +1,8 @@
 -- `jobs::texts::write_command` meets its contract. Assumes nothing.
 use Prim.Native.Char.{code}
-use Prim.Native.Nat.{◌+◌, ◌-◌, ◌/◌, ◌%◌, ◌≤◌}
-use mathlib.Core.Path.{◌≡◌, ◌∙◌}
+use Prim.Native.Nat.{◌+◌, ◌/◌, ◌%◌, ◌≤◌}
 use native.Mathlib.Omega.{arith}
 use lib.ListN.{length, take, set, length-append, length-set, length-take, length-drop}
-use borrow.Rule.Slice.PartMut.{same_len_mid}
-use borrow.Author.Rules.{rules}
 use Rattle.digits.proofs.PutLaws.{put_rest}
 use Rattle.text.proofs.TextLaws.{decimal_within}
 use Rattle.jobs.specs.Texts.{plain_text, reply_text, command_text}

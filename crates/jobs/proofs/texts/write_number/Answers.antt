@@ -1,6 +1,5 @@
 -- `jobs::texts::write_number` meets its contract. Assumes nothing.
 use native.Mathlib.Omega.{arith}
-use borrow.Author.Rules.{rules}
 use Rattle.text.proofs.TextLaws.{decimal_within}
 use Rattle.jobs.proofs.texts.write_number.Goals as goal
 

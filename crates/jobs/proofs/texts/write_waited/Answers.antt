@@ -1,11 +1,9 @@
 -- `jobs::texts::write_waited` meets its contract. Assumes nothing.
-use Prim.Native.Nat.{ℕ, ◌+◌, ◌*◌, ◌-◌, ◌≤◌}
+use Prim.Native.Nat.{◌+◌, ◌-◌, ◌≤◌}
 use mathlib.Core.Path.{◌≡◌, refl, sym, ◌∙◌}
-use mathlib.Core.List.{List}
 use native.Mathlib.Omega.{arith}
 use lib.ListN.{length, take, drop, get_or, length-append, length-take, length-drop}
 use borrow.Rule.Slice.PartMut.{same_len_mid}
-use borrow.Author.Rules.{rules}
 use Rattle.digits.specs.Bytes.{put}
 use Rattle.text.specs.Text.{Wrote}
 use Rattle.digits.specs.Places.{origin}

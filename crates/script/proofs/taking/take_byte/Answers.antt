@@ -3,7 +3,6 @@ use mathlib.Core.Path.{refl, sym}
 use native.Mathlib.Omega.{arith}
 use lib.ListN.{length-take}
 use borrow.Author.Tests.{eq-eqb, ne_eqb}
-use borrow.Author.Rules.{rules}
 use Rattle.digits.proofs.PutLaws.{put_none}
 use Rattle.script.specs.Stream.{byte_read}
 use Rattle.script.proofs.taking.take_byte.Goals as goal

@@ -3,7 +3,6 @@ use mathlib.Core.Path.{◌≡◌, refl, sym}
 use native.Mathlib.Omega.{arith}
 use lib.ListN.{length, take, length-take}
 use lib.Seq.{length-take-le}
-use borrow.Author.Rules.{rules}
 use Rattle.digits.proofs.PutLaws.{put_none}
 use Rattle.running.proofs.RunLaws.{line_within}
 use Rattle.script.specs.Stream.{end_read}

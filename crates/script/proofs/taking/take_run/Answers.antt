@@ -1,16 +1,14 @@
 -- `script::taking::take_run` meets its contract. Assumes nothing.
-use Prim.Native.Nat.{◌+◌, ◌-◌, ◌*◌, ◌≤◌}
+use Prim.Native.Nat.{◌+◌, ◌-◌, ◌≤◌}
 use mathlib.Core.List.{◌++◌}
-use mathlib.Core.Path.{◌≡◌, refl, sym, ◌∙◌}
+use mathlib.Core.Path.{◌≡◌, refl, ◌∙◌}
 use native.Mathlib.Omega.{arith}
 use lib.ListN.{length, take, drop, get_or, length-take, length-drop}
 use borrow.Rule.Slice.PartMut.{same_len_mid}
 use borrow.Author.Tests.{leb-true, leb-false}
 use Rattle.digits.proofs.PutLaws.{put_part}
 use Rattle.digits.specs.Bytes.{put}
-use Rattle.jobs.specs.Holding.{held_size}
-use Rattle.script.specs.Stream.{Prints, byte_read}
-use Rattle.jobs.specs.Bounds.{out_size}
+use Rattle.script.specs.Stream.{byte_read}
 use Rattle.script.proofs.FeedLaws.{prints_none, prints_more, byte_within, front_more}
 use Rattle.script.proofs.taking.take_run.Goals as goal
 

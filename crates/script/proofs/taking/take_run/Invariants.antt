@@ -1,17 +1,10 @@
 -- `script::taking::take_run` meets its contract. Assumes nothing.
-use Prim.Native.Nat.{◌+◌, ◌-◌, ◌*◌, ◌≤◌}
-use mathlib.Core.List.{◌++◌}
-use mathlib.Core.Path.{◌≡◌, refl, sym, ◌∙◌}
-use native.Mathlib.Omega.{arith}
-use lib.ListN.{length, take, drop, get_or, length-take, length-drop}
-use borrow.Rule.Slice.PartMut.{same_len_mid}
-use borrow.Author.Tests.{leb-true, leb-false}
-use Rattle.digits.proofs.PutLaws.{put_part}
-use Rattle.digits.specs.Bytes.{put}
+use Prim.Native.Nat.{◌-◌, ◌*◌, ◌≤◌}
+use mathlib.Core.Path.{◌≡◌}
+use lib.ListN.{length, take, drop}
 use Rattle.jobs.specs.Holding.{held_size}
-use Rattle.script.specs.Stream.{Prints, byte_read}
+use Rattle.script.specs.Stream.{Prints}
 use Rattle.jobs.specs.Bounds.{out_size}
-use Rattle.script.proofs.FeedLaws.{prints_none, prints_more, byte_within, front_more}
 use Rattle.script.proofs.taking.take_run.Given as goal
 
 abbrev pub invariant-loop-read : goal.invariant-loop-read

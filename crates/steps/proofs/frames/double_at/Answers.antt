@@ -1,6 +1,5 @@
 -- `steps::frames::double_at` meets its contract. Assumes nothing.
 use Rattle.steps.specs.Fields.{double_at}
-use borrow.Author.Rules.{rules}
 use Rattle.steps.proofs.frames.double_at.Goals as goal
 
 pub returns : goal.returns

@@ -4,7 +4,6 @@ use native.Mathlib.Omega.{arith}
 use borrow.Author.Tests.{eq-eqb, ne_eqb, le-leb, lt-leb}
 use Rattle.steps.specs.Fields.{length_at, tag_at, frame_fault}
 use Rattle.steps.proofs.FieldLaws.{uncut}
-use borrow.Author.Rules.{rules}
 use Rattle.steps.proofs.frames.frame_fault.Goals as goal
 
 pub returns-then-list-at : goal.returns-then-list-at

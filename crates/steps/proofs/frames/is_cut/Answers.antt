@@ -5,7 +5,6 @@ use Rattle.steps.proofs.FieldLaws.{cut_asked}
 use native.Mathlib.Omega.{arith}
 use borrow.Author.Tests.{lt-ltb}
 use Rattle.steps.specs.Fields.{is_cut, length_at}
-use borrow.Author.Rules.{rules}
 use Rattle.steps.proofs.frames.is_cut.Goals as goal
 
 pub returns-then-left-lt3 : goal.returns-then-left-lt3

@@ -3,7 +3,6 @@ use native.Mathlib.Omega.{arith}
 use mathlib.Core.Bool.{◌&&◌, not}
 use lib.Dec.{leb}
 use Rattle.steps.proofs.JudgeLaws.{numbered, in_range_law}
-use borrow.Author.Rules.{rules}
 use Rattle.steps.proofs.judging.judge_number.Goals as goal
 
 pub overflow_cast-result : goal.overflow_cast-result

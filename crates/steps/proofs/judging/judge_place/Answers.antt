@@ -1,7 +1,6 @@
 -- `steps::judging::judge_place` meets its contract. Assumes nothing.
 use borrow.Author.Tests.{le-leb, lt-leb}
 use Rattle.steps.proofs.JudgeLaws.{placed}
-use borrow.Author.Rules.{rules}
 use Rattle.steps.proofs.judging.judge_place.Goals as goal
 
 pub returns-then-minus : goal.returns-then-minus

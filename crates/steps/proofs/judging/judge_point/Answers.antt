@@ -1,6 +1,5 @@
 -- `steps::judging::judge_point` meets its contract. Assumes nothing.
 use Rattle.steps.specs.Judging.{judged_point}
-use borrow.Author.Rules.{rules}
 use Rattle.steps.proofs.judging.judge_point.Goals as goal
 
 pub returns-in-Target : goal.returns-in-Target

@@ -1,6 +1,5 @@
 -- `steps::judging::judge_speed` meets its contract. Assumes nothing.
 use Rattle.steps.specs.Judging.{judged_speed}
-use borrow.Author.Rules.{rules}
 use Rattle.steps.proofs.judging.judge_speed.Goals as goal
 
 pub returns : goal.returns

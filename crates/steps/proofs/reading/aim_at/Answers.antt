@@ -5,7 +5,6 @@ use borrow.Author.Tests.{eq-eqb, ne_eqb}
 use Rattle.steps.proofs.FieldLaws.{framed_other}
 use Rattle.steps.specs.Fields.{tag_at}
 use Rattle.steps.specs.Steps.{aim_at}
-use borrow.Author.Rules.{rules}
 use Rattle.steps.proofs.reading.aim_at.Goals as goal
 
 pub byte_at-requires : goal.byte_at-requires

@@ -1,5 +1,4 @@
 -- `steps::reading::aim_fault` meets its contract. Assumes nothing.
-use borrow.Author.Rules.{rules}
 use Rattle.steps.proofs.reading.aim_fault.Goals as goal
 
 pub returns-in-Point : goal.returns-in-Point

@@ -1,5 +1,4 @@
 -- `steps::reading::dwell_of` meets its contract. Assumes nothing.
-use borrow.Author.Rules.{rules}
 use Rattle.steps.proofs.reading.dwell_of.Goals as goal
 
 pub returns-in-Number : goal.returns-in-Number

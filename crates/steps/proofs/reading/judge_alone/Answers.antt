@@ -1,5 +1,4 @@
 -- `steps::reading::judge_alone` meets its contract. Assumes nothing.
-use borrow.Author.Rules.{rules}
 use Rattle.steps.proofs.reading.judge_alone.Goals as goal
 
 pub returns-in-Number : goal.returns-in-Number

@@ -1,5 +1,4 @@
 -- `steps::reading::judge_rate` meets its contract. Assumes nothing.
-use borrow.Author.Rules.{rules}
 use Rattle.steps.proofs.reading.judge_rate.Goals as goal
 
 pub returns-in-Number : goal.returns-in-Number

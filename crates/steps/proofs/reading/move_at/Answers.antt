@@ -4,7 +4,6 @@ use native.Mathlib.Omega.{arith}
 use Rattle.steps.proofs.StepLaws.{aim_there, alone}
 use Rattle.steps.specs.Steps.{move_at, is_distance}
 use Rattle.steps.specs.Judging.{judged_point}
-use borrow.Author.Rules.{rules}
 use Rattle.steps.proofs.reading.move_at.Goals as goal
 
 pub returns-in_default : goal.returns-in_default

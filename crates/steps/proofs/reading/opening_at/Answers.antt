@@ -4,14 +4,11 @@ use native.Mathlib.Omega.{arith}
 use borrow.Author.Tests.{eq-eqb, ne_eqb}
 use Prim.Native.Nat.{ℕ, ◌+◌, ◌≤◌}
 use mathlib.Core.Path.{◌≡◌}
-use mathlib.Core.Bool.{true}
 use mathlib.Core.List.{List}
-use lib.Dec.{eqb}
 use lib.ListN.{length}
 use Rattle.steps.proofs.FieldLaws.{framed_byte, framed_double, framed_some}
 use Rattle.steps.specs.Fields.{tag_at, channel_at, frame_fault}
 use Rattle.steps.specs.Steps.{opening_at}
-use borrow.Author.Rules.{rules}
 use Rattle.steps.proofs.reading.opening_at.Goals as goal
 
 -- of a channel's field

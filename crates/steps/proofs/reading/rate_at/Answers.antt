@@ -4,7 +4,6 @@ use native.Mathlib.Omega.{arith}
 use borrow.Author.Tests.{eq-eqb, ne_eqb}
 use Rattle.steps.proofs.FieldLaws.{framed_other}
 use Rattle.steps.specs.Steps.{rate_at}
-use borrow.Author.Rules.{rules}
 use Rattle.steps.proofs.reading.rate_at.Goals as goal
 
 pub double_at-requires : goal.double_at-requires

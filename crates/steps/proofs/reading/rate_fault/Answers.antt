@@ -1,5 +1,4 @@
 -- `steps::reading::rate_fault` meets its contract. Assumes nothing.
-use borrow.Author.Rules.{rules}
 use Rattle.steps.proofs.reading.rate_fault.Goals as goal
 
 pub returns-in-Speed : goal.returns-in-Speed

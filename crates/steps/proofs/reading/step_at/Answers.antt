@@ -1,7 +1,6 @@
 -- `steps::reading::step_at` meets its contract. Assumes nothing.
 use borrow.Author.Tests.{le-leb, lt-leb}
 use Rattle.steps.specs.Steps.{step_at}
-use borrow.Author.Rules.{rules}
 use Rattle.steps.proofs.reading.step_at.Goals as goal
 
 pub returns-then-list-at : goal.returns-then-list-at

@@ -1,7 +1,6 @@
 -- `urqolina::ticking::drive_channel` meets its contract. Assumes nothing.
 use mathlib.Core.Path.{◌≡◌}
 use mathlib.Core.Bool.{true}
-use borrow.Author.Rules.{rules}
 use Rattle.motor.specs.Sound.{busy}
 use Rattle.motor.proofs.MovingLaws.{moving_busy}
 use Rattle.motor.proofs.RecordLaws.{sound_written_read}

@@ -2,7 +2,6 @@
 use mathlib.Core.Path.{◌≡◌, sym, ◌∙◌}
 use mathlib.Core.Bool.{true}
 use borrow.Author.Tests.{ne_eqb}
-use borrow.Author.Rules.{rules}
 use Rattle.record.specs.Record.{record_of}
 use Rattle.record.proofs.RoundTrip.{record_length}
 use Rattle.motor.specs.Sound.{busy}

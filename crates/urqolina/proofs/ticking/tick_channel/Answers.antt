@@ -1,7 +1,6 @@
 -- `urqolina::ticking::tick_channel` meets its contract. Assumes nothing.
 use mathlib.Core.Path.{◌≡◌, sym, ◌∙◌}
 use mathlib.Core.Bool.{false}
-use borrow.Author.Rules.{rules}
 use Rattle.motor.specs.Sound.{moving}
 use Rattle.table.specs.Layout.{motor_at}
 use Rattle.table.proofs.TableLaws.{motor_sound_in}

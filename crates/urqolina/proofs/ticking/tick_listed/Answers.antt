@@ -1,7 +1,6 @@
 -- `urqolina::ticking::tick_listed` meets its contract. Assumes nothing.
 use mathlib.Core.Path.{◌≡◌, sym, ◌∙◌}
 use mathlib.Core.Bool.{false}
-use borrow.Author.Rules.{rules}
 use Rattle.motor.specs.Sound.{moving}
 use Rattle.motor.proofs.MovingLaws.{idle_still}
 use Rattle.table.specs.Layout.{motor_at}
