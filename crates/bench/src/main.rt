@@ -12,8 +12,8 @@
 ghost use Rattle.std.specs.Prelude.{◌≡◌, ◌≤◌, length};
 ghost use Rattle.jobs.specs.Holding.{held_size};
 
-use libc::{STDIN_FILENO, STDOUT_FILENO};
 use script::taking::{take_end, take_run};
+use std::io::{Read, Write};
 use urqolina::urqolina_fresh;
 
 // What stands between two reads: whether the line is the first one, how many bytes of it are held, and whether there is more to read.
@@ -25,11 +25,18 @@ struct Turn {
 }
 
 // Prints what some bytes of the input print. Where the output takes no more, nothing more is read.
-fn print_bytes(table: &mut [u8], line: &mut [u8], first: bool, held: usize, bytes: &[u8]) -> Turn
+fn print_bytes<W: Write>(
+    to: &mut W,
+    table: &mut [u8],
+    line: &mut [u8],
+    first: bool,
+    held: usize,
+    bytes: &[u8],
+) -> Turn
     requires { (length line.old ≡ held_size) × (held ≤ held_size) }
     ensures { result.held ≤ held_size }
 {
-    let mut out = io::large_buffer();
+    let mut out = [0u8; 65536];
     let mut opening = first;
     let mut kept = held;
     let mut at: usize = 0;
@@ -37,7 +44,7 @@ fn print_bytes(table: &mut [u8], line: &mut [u8], first: bool, held: usize, byte
     while more && at < bytes.len() {
         let run = take_run(table, line, opening, kept, &bytes[at..], &mut out);
         let n = run.count;
-        more = io::write_all(STDOUT_FILENO, &out[..n]);
+        more = to.write_all(&out[..n]).is_ok();
         opening = run.first;
         kept = run.held;
         at += run.read;
@@ -50,39 +57,44 @@ fn print_bytes(table: &mut [u8], line: &mut [u8], first: bool, held: usize, byte
 }
 
 // Reads once, and prints what came.
-fn read_some(table: &mut [u8], line: &mut [u8], first: bool, held: usize) -> Turn
+fn read_some<R: Read, W: Write>(
+    from: &mut R,
+    to: &mut W,
+    table: &mut [u8],
+    line: &mut [u8],
+    first: bool,
+    held: usize,
+) -> Turn
     requires { (length line.old ≡ held_size) × (held ≤ held_size) }
     ensures { result.held ≤ held_size }
 {
-    let mut input = io::large_buffer();
-    let got = libc::read(STDIN_FILENO, &mut input);
-    if got <= 0 {
+    let mut input = [0u8; 65536];
+    let n = from.read(&mut input).unwrap_or(0);
+    if n == 0 {
         return Turn {
             first: first,
             held: held,
             more: false,
         };
     }
-    let n = io::count(got, &input);
-    print_bytes(table, line, first, held, &input[..n])
+    print_bytes(to, table, line, first, held, &input[..n])
 }
 
 // Reads to the end, or to a read that fails, and answers how many bytes of the last line are held, and whether it is the first one. A
-// proved loop has to end, and nothing says that the input does, so the turns are counted down from a number that no run uses up.
-fn read_all(table: &mut [u8], line: &mut [u8]) -> Turn
+// proved loop has to end, and nothing says that the input does, so the turns are counted, up to a number that no run reaches.
+fn read_all<R: Read, W: Write>(from: &mut R, to: &mut W, table: &mut [u8], line: &mut [u8]) -> Turn
     requires { length line.old ≡ held_size }
     ensures { result.held ≤ held_size }
 {
     let mut first = true;
     let mut held: usize = 0;
-    let mut more = true;
-    let mut turns = u64::MAX;
-    while more && turns > 0 {
-        let turn = read_some(table, line, first, held);
+    for _ in 0..u64::MAX {
+        let turn = read_some(from, to, table, line, first, held);
         first = turn.first;
         held = turn.held;
-        more = turn.more;
-        turns -= 1;
+        if !turn.more {
+            break;
+        }
     }
     Turn {
         first: first,
@@ -91,12 +103,14 @@ fn read_all(table: &mut [u8], line: &mut [u8]) -> Turn
     }
 }
 
-fn main() {
+fn main(rt: HostRuntime) {
+    let mut input = rt.stdin();
+    let mut output = rt.stdout();
     let mut table = [0; 1088];
     urqolina_fresh(&mut table, 0);
     let mut line = [0u8; 96];
-    let last = read_all(&mut table, &mut line);
+    let last = read_all(&mut input, &mut output, &mut table, &mut line);
     let mut out = [0u8; 256];
     let n = take_end(&mut table, &line, last.first, last.held, &mut out);
-    io::write_all(STDOUT_FILENO, &out[..n]);
+    let _ = output.write_all(&out[..n]);
 }

@@ -9,27 +9,45 @@
 
 #![tactic(auto)]
 
-use libc::{STDIN_FILENO, STDOUT_FILENO};
+ghost use Rattle.std.specs.Prelude.{◌≤◌, length};
+
 use lists::listing::write_list;
+use std::io::{Read, Write};
+
+// Reads until the buffer is full, the input ends or a read fails, and answers how many bytes were read.
+fn read_full<R: Read>(from: &mut R, list: &mut [u8]) -> usize
+    ensures { result ≤ length list.new }
+{
+    let mut n: usize = 0;
+    while n < list.len() {
+        let got = from.read(&mut list[n..]).unwrap_or(0);
+        if got == 0 {
+            break;
+        }
+        n += got;
+    }
+    n
+}
 
 // Reads what is left, to the end or to a read that fails. A proved loop has to end, and nothing says that the input does, so the turns
-// are counted down from a number that no run uses up.
-fn drop_rest() {
-    let mut input = io::large_buffer();
-    let mut more = true;
-    let mut turns = u64::MAX;
-    while more && turns > 0 {
-        more = libc::read(STDIN_FILENO, &mut input) > 0;
-        turns -= 1;
+// are counted, up to a number that no run reaches.
+fn drop_rest<R: Read>(from: &mut R) {
+    let mut input = [0u8; 65536];
+    for _ in 0..u64::MAX {
+        if from.read(&mut input).unwrap_or(0) == 0 {
+            break;
+        }
     }
 }
 
-fn main() {
+fn main(rt: HostRuntime) {
+    let mut input = rt.stdin();
+    let mut output = rt.stdout();
     let mut list = [0u8; 327680];
-    let n = io::read_full(STDIN_FILENO, &mut list);
+    let n = read_full(&mut input, &mut list);
     let mut out = [0u8; 440064];
     let k = write_list(&mut out, &list[..n]);
-    if io::write_all(STDOUT_FILENO, &out[..k]) {
-        drop_rest();
+    if output.write_all(&out[..k]).is_ok() {
+        drop_rest(&mut input);
     }
 }
