@@ -33,8 +33,7 @@ const PULSES: usize = 64;
 const REPLY: usize = 32;
 
 // Makes the fresh table of a card, 0 of sixteen motors or 1 of four.
-#[unsafe(no_mangle)]
-pub extern "C" fn urqolina_fresh(table: &mut [u8], card: u32) -> u32
+pub fn urqolina_fresh(table: &mut [u8], card: u32) -> u32
     ensures { record { result = result; table = table.new } ≡ fresh_call table.old card }
 {
     if (table.len() == TABLE) & (card <= 1) {
@@ -46,8 +45,7 @@ pub extern "C" fn urqolina_fresh(table: &mut [u8], card: u32) -> u32
 }
 
 // Takes one command line and writes its reply.
-#[unsafe(no_mangle)]
-pub extern "C" fn urqolina_command(table: &mut [u8], line: &[u8], reply: &mut [u8]) -> u32
+pub fn urqolina_command(table: &mut [u8], line: &[u8], reply: &mut [u8]) -> u32
     ensures { record { result = result; table = table.new; reply = reply.new } ≡ command_call table.old line.now reply.old }
 {
     if (table.len() == TABLE) & (REPLY <= reply.len()) {
@@ -71,8 +69,7 @@ fn read_channel(t: &mut [u8], channel: u8, contacts: u8)
 }
 
 // Takes one switch reading of a channel.
-#[unsafe(no_mangle)]
-pub extern "C" fn urqolina_reading(table: &mut [u8], channel: u32, contacts: u32) -> u32
+pub fn urqolina_reading(table: &mut [u8], channel: u32, contacts: u32) -> u32
     ensures { record { result = result; table = table.new } ≡ reading_call table.old channel contacts }
 {
     if (table.len() == TABLE) & (channel <= 15) & (contacts <= 7) {
@@ -88,8 +85,7 @@ pub extern "C" fn urqolina_reading(table: &mut [u8], channel: u32, contacts: u32
 }
 
 // Takes one tick and writes the pulses of each channel.
-#[unsafe(no_mangle)]
-pub extern "C" fn urqolina_tick(table: &mut [u8], pulses: &mut [u8]) -> u32
+pub fn urqolina_tick(table: &mut [u8], pulses: &mut [u8]) -> u32
     ensures { record { result = result; table = table.new; pulses = pulses.new } ≡ tick_call table.old pulses.old }
 {
     if (table.len() == TABLE) & (pulses.len() == PULSES) {
