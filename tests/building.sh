@@ -3,7 +3,7 @@
 . "$(dirname "$0")/tree"
 
 # As many crates as the stand-in tells of, and one that neither program needs.
-printf '# two below it\ndigits:\ntext: digits\nlaws: text\nbench: io text digits\nscanlist: io text digits\n' >"$tree/crates.txt"
+printf '# two below it\ndigits:\ntext: digits\nlaws: text\nbench: text digits\nscanlist: text digits\n' >"$tree/crates.txt"
 
 GO=$room/go
 must_run_ten 'an unbuilt tree'
@@ -26,14 +26,14 @@ wait
 cat >"$room/expected" <<'END'
 scanlist: another run is building in this tree; waiting for it
 scanlist: proving what it is built from, 3 crates; from nothing this takes some minutes
-scanlist: crate 1 of 3: digits proved (0 s)
-scanlist: crate 2 of 3: text proved (0 s)
-scanlist: crate 3 of 3: scanlist proved (0 s)
+scanlist: crate 1 of 3: digits proved
+scanlist: crate 2 of 3: text proved
+scanlist: crate 3 of 3: scanlist proved
 END
 cmp -s "$room/said" "$room/expected" || fail "the second program has said: $(cat "$room/said")"
 try bench
 cmp -s "$room/out" "$expected" || fail 'the first program printed something else'
-printf 'check bench\ncheck scanlist\n' | cmp -s - "$calls" || fail "for the two programs rt was called with: $(cat "$calls")"
+printf 'run bench\nrun scanlist\n' | cmp -s - "$calls" || fail "for the two programs rt was called with: $(cat "$calls")"
 
 # The first line is there before rt is called, and so before anything takes long.
 rm -r "$tree/target"
@@ -41,11 +41,21 @@ rm -r "$tree/target"
 cmp -s "$room/out" "$expected" || fail 'an unbuilt tree: it printed something else'
 grep -q '^bench: proving .* 3 crates.*some minutes' "$calls.said" || fail "before rt was called it had said: $(cat "$calls.said")"
 cat >"$room/said" <<'END'
-bench: crate 1 of 3: digits proved (0 s)
-bench: crate 2 of 3: text proved (0 s)
-bench: crate 3 of 3: bench proved (0 s)
+bench: crate 1 of 3: digits proved
+bench: crate 2 of 3: text proved
+bench: crate 3 of 3: bench proved
 END
 sed 1d "$calls.err" | cmp -s - "$room/said" || fail "without a terminal it has said: $(cat "$calls.err")"
+
+# Of a crate that it knows to be proved rt says nothing. It counts all the same, where the one above it is told; and a line may name
+# the kind of a crate too.
+rm -r "$tree/target"
+cp "$tree/crates.txt" "$room/crates.txt"
+printf 'line:\nform: line\ndigits: form\ntext staticlib: digits\nbench: text # all of them\n' >"$tree/crates.txt"
+must_run 'an unbuilt tree, with crates that rt says nothing of'
+sed 's/.*crate \([0-9]* of [0-9]*\): \([a-z]*\) .*/\1 \2/; 1d' "$room/err" >"$room/said"
+printf '3 of 5 digits\n4 of 5 text\n5 of 5 bench\n' | cmp -s - "$room/said" || fail "where rt says nothing of two crates it has said: $(cat "$room/err")"
+cp "$room/crates.txt" "$tree/crates.txt"
 
 # Another kit than the one that kit.txt names is told, and is no fault.
 rm -r "$tree/target"
@@ -100,7 +110,7 @@ run_ten
 must_have_built 1 'a build that fails, with nine that wait'
 for k in 0 1 2 3 4 5 6 7 8 9; do
     [ "$(cat "$room/status.$k")" = 1 ] || fail "where the build fails, one of ten ended with status $(cat "$room/status.$k")"
-    grep -q 'rt: bench NOT PROVED' "$room/err.$k" || fail "where the build fails, one of ten does not say so: $(cat "$room/err.$k")"
+    grep -q '^logic=not-proved' "$room/err.$k" || fail "where the build fails, one of ten does not say so: $(cat "$room/err.$k")"
     [ ! -s "$room/out.$k" ] || fail 'where the build fails, something was run'
 done
 # That is no failure of a later build: here another holds the tree for a while, and then it is built.

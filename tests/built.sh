@@ -29,12 +29,17 @@ rm "$tree/crates/line/must-fail"/*.edit
 must_build 'a folder from which something has gone'
 touch "$tree/crates.txt"
 must_build 'a newer crates.txt'
-rm "$tree/target/stamp/bench"
-must_build 'no stamp'
 rm "$tree/target/bin/bench"
 must_build 'no program'
 rm -r "$tree/target"
 must_build 'no target/'
+
+# What rt keeps for itself is not looked at: neither that it is newer, nor that it has gone.
+for each in 'touch' 'rm -r'; do
+    $each "$tree/crates/bench/out" && mkdir -p "$tree/crates/line/out" && : >"$tree/crates/line/out/kept" && touch "$tree/crates/line"
+    must_run "$each out/"
+    must_have_built "$builds" "$each out/"
+done
 
 # The other program is built by itself, and each of them stays built while the other one is.
 try scanlist
@@ -42,8 +47,6 @@ must_build 'the other program'
 listing >"$room/before"
 must_run_ten 'the other program, built'
 listing | cmp -s - "$room/before" || fail 'a run of the other program, built, wrote to target/'
-rm "$tree/target/stamp/scanlist"
-must_build 'no stamp of the other program'
 rm "$tree/target/bin/scanlist"
 must_build 'no other program'
 try bench
@@ -64,10 +67,9 @@ wait
 builds=$((builds + 1))
 must_build 'a source that changed while it was built'
 
-# Another kit, with the loader and the libraries of this one.
-kit=$(dirname "$(dirname "$(rt doc)")")
-mkdir -p "$room/kit/docs" && ln -s "$kit/on" "$room/kit/on" && cp "$kit/KIT-ID" "$room/kit/KIT-ID"
-printf '#!/bin/sh\ncase $1 in doc) echo %s/kit/docs/START-HERE.md ;; *) exec %s "$@" ;; esac\n' "$room" "$REAL" >"$room/other-rt"
+# Another kit.
+mkdir "$room/kit" && cp "$(dirname "$(rt doc)")/KIT-ID" "$room/kit/KIT-ID"
+printf '#!/bin/sh\ncase $1 in doc) echo %s/kit/START-HERE.md ;; *) exec %s "$@" ;; esac\n' "$room" "$REAL" >"$room/other-rt"
 chmod +x "$room/other-rt"
 REAL=$room/other-rt
 must_build 'a newer kit'

@@ -83,14 +83,10 @@ for signal in TERM KILL; do
     must_come "$room/status" "the run was ended by $signal, and something of it goes on"
 done
 
-# A loader that ends by a signal, in place of the kit's.
-mkdir -p "$room/kit/docs" "$room/kit/on/$(uname -m)/toolchain/lib" && : >"$room/kit/KIT-ID"
-touch -r "$tree/kit.txt" "$room/kit/KIT-ID"
-printf '#!/bin/sh\necho %s/kit/docs/START-HERE.md\n' "$room" >"$room/other-rt"
-printf '#!/bin/sh\nread -r line\necho 0 -\nkill -%s $$\n' SEGV >"$room/kit/on/$(uname -m)/toolchain/lib/ld-linux-x86-64.so.2"
-chmod +x "$room/other-rt" "$room/kit/on/$(uname -m)/toolchain/lib/ld-linux-x86-64.so.2"
+# A program that ends by a signal, in place of the one that was built.
+printf '#!/bin/sh\nread -r line\necho 0 -\nkill -%s $$\n' SEGV >"$tree/target/bin/bench"
 : >"$room/status"
-{ REAL=$room/other-rt "$tree/bench" <"$room/input" >"$room/out" 2>"$room/err"; echo $? >"$room/status"; } &
+{ "$tree/bench" <"$room/input" >"$room/out" 2>"$room/err"; echo $? >"$room/status"; } &
 echo 'C REM' >"$room/input"
 must_come "$room/status" 'a signal has ended the program, and it goes on'
 must_say "$(cat "$room/status")" 139 'signal 11'

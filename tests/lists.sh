@@ -72,20 +72,16 @@ echo 'print = 1' >"$room/wrong.py"
 MODEL=$room/wrong.py lists 2 1
 MODEL=$room/none.py lists 2 1
 
-# Both alike wrong: the loader of another kit runs the model in place of the program.
-mkdir -p "$room/kit/docs" "$room/kit/on/$(uname -m)/toolchain/lib" && : >"$room/kit/KIT-ID"
-touch -r "$tree/kit.txt" "$room/kit/KIT-ID"
-printf '#!/bin/sh\necho %s/kit/docs/START-HERE.md\n' "$room" >"$room/other-rt"
-loader=$room/kit/on/$(uname -m)/toolchain/lib/ld-linux-x86-64.so.2
-cat >"$loader" <<END
+# Both alike wrong: the model runs in place of the program that was built.
+program=$tree/target/bin/scanlist
+cat >"$program" <<END
 #!/bin/sh
 exec python3 -c 'import runpy, sys; sys.stdout.buffer.write(runpy.run_path("$room/wrong.py")["printed"](sys.stdin.buffer.read()))'
 END
-chmod +x "$room/other-rt" "$loader"
 
 must_find_in_both() { # FAULT STATEMENTS
     wrong_model "$2"
-    REAL=$room/other-rt MODEL=$room/wrong.py lists 1 1
+    MODEL=$room/wrong.py lists 1 1
     grep -q "^lists: seed 1, list .* both are wrong: .*$1" "$room/out" || fail "of a fault that both have, $1, it says: $(cat "$room/out")"
 }
 must_find_in_both 'forms' 'lines = lines[1:]'
@@ -94,7 +90,7 @@ must_find_in_both 'sum' 'if last == "250": last = "251"'
 must_find_in_both 'must end with' 'if number == 20: last = "21 %d" % place'
 
 # And a program that ends with another status.
-printf '#!/bin/sh\ncat >/dev/null\nexit 9\n' >"$loader"
-REAL=$room/other-rt lists 1 1
+printf '#!/bin/sh\ncat >/dev/null\nexit 9\n' >"$program"
+lists 1 1
 grep -q 'of the program: it ended with status 9' "$room/out" || fail "of a program that ends with status 9 it says: $(cat "$room/out")"
 must_have_built 1 'all of this'

@@ -13,17 +13,27 @@ need() { # COMMAND WHAT
 # Sets home, the kit's folder, by the path of its guide, which rt doc prints.
 find_kit() {
     need rt "it is the command of the Rattle kit, the prover and compiler of the language that this is written in. It was proved with $(cat "$root/kit.txt")"
-    guide=$(rt doc) && home=$(cd "$(dirname "$guide")/.." && pwd -P) || { say 'rt doc does not tell where the kit is'; exit 2; }
+    guide=$(rt doc) && home=$(cd "$(dirname "$guide")" && pwd -P) || { say 'rt doc does not tell where the kit is'; exit 2; }
+}
+
+# What is newer than a file, of all that is proved and of the kit, by the first such name. The folders out/, which rt writes, are none
+# of it, and neither are those that they stand in.
+newer_than() { # FILE
+    (
+        cd "$root" || exit
+        find crates -mindepth 2 -regex 'crates/[^/]*/out' -prune -o -newer "$1" -print
+        find crates.txt "$home/KIT-ID" -newer "$1"
+    ) 2>&1 | head -n 1
 }
 
 # Whether a file is there, and no file or folder that is proved, nor the kit, is newer. What can't be looked at counts as newer.
 is_newest() { # FILE
-    [ -f "$1" ] && [ -z "$(find "$root/crates" "$root/crates.txt" "$home/KIT-ID" -newer "$1" 2>&1 | head -n 1)" ]
+    [ -f "$1" ] && [ -z "$(newer_than "$1")" ]
 }
 
-# How many crates are proved for one of crates.txt, itself among them.
-crates_for() { # NAME
-    awk -v name="$1" '
+# How many crates are proved for some of crates.txt, themselves among them.
+crates_for() { # NAMES..
+    awk -v names="$*" '
         function visit(n, below, k, count) {
             if (n in seen || !(n in list)) return 0
             seen[n] = count = 1
@@ -31,8 +41,8 @@ crates_for() { # NAME
             return count
         }
         { sub(/#.*/, ""); at = index($0, ":") }
-        at { n = substr($0, 1, at - 1); gsub(/[ \t]/, "", n); list[n] = substr($0, at + 1) }
-        END { print visit(name) }' "$root/crates.txt"
+        at { split(substr($0, 1, at - 1), head, " "); list[head[1]] = substr($0, at + 1) }
+        END { for (k = split(names, name, " "); k > 0; k--) count += visit(name[k]); print count + 0 }' "$root/crates.txt"
 }
 
 # A pipe of which only this process keeps the writing end, as 8: what it starts closes that for good, by exec, since a shell keeps
@@ -66,19 +76,24 @@ not_built() { # LOG
     exit 1
 }
 
-# Runs rt with these words for a crate, and says how far it is. Where it fails, the run ends with what it said. Where this run is
+# Runs rt with these words in a crate's folder, and says how far it is. Where it fails, the run ends with what it said. Where this run is
 # broken off, tools/prove sees it and ends what it has started. LOG.began gets the time of the beginning: what changes while it
 # proves is newer.
 prove() { # CRATE LOG WORDS..
-    count=$(crates_for "$1") log=$2
+    each=$1 log=$2
     shift 2
     need setsid 'the package util-linux has it'
     { mkdir -p "$(dirname "$log")" && rm -f "$log.failed" && touch "$log.began"; } 2>/dev/null || cannot_write "$(dirname "$log")"
-    say "proving what it is built from, $count crates; from nothing this takes some minutes"
+    say "proving what it is built from, $(crates_for "$each") crates; from nothing this takes some minutes"
     [ "$(rt version)" = "$(cat "$root/kit.txt")" ] || say "the kit here is $(rt version); this repository was proved with $(cat "$root/kit.txt")"
     open_leash || exit 2
-    setsid "$root/tools/prove" "$who" "$log" "$count" "$@" 8>&- &
+    setsid "$root/tools/prove" "$who" "$log" "$each" "$@" 8>&- &
     wait $! || { echo "$$ $(date)" >"$log.failed"; not_built "$log"; }
+}
+
+# Puts a copy of what rt has built in its place under target/, in one step, with the time at which its building began.
+keep_built() { # FILE PLACE BEGAN
+    { mkdir -p "$(dirname "$2")" && cp "$1" "$2.new" && touch -r "$3" "$2.new" && mv "$2.new" "$2"; } 2>/dev/null || cannot_write "$2"
 }
 
 # Holds the tree while one thing is built in it, unless it is built by then. A run that has waited for a build of it that failed

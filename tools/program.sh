@@ -3,8 +3,8 @@
 # what it reads, in a word; they have usage, which prints the help, and look_at, which is given a FILE that is plain before it is
 # read; and they end with main. host/run reads this file too, and runs the program without main.
 #
-# The program is proved and built first where it is not built: where rt's stamp of it is missing, or a file or folder of crates/,
-# crates.txt or the kit is newer. Where it is built, nothing is written to the tree.
+# The program is proved and built first where it is not built: where there is no copy of it in target/bin/, or a file or folder of
+# crates/, crates.txt or the kit is newer. Where it is built, nothing is written to the tree.
 set -u
 unset CDPATH
 # a closed standard error would be taken for another file
@@ -14,25 +14,19 @@ unset CDPATH
 program=$root/target/bin/$crate
 log=$root/target/$crate.log
 
-has_program() { [ -f "$root/target/stamp/$crate" ] && is_newest "$program"; }
+has_program() { is_newest "$program"; }
 
+# rt runs what it has built, here on an empty input. What is run later is a copy: rt ci sets aside all that stands in out/.
 build_program() {
-    # rt takes a program that it has proved for built, also where the file has gone since
-    [ -f "$program" ] || rm -f "$root/target/stamp/$crate"
-    prove "$crate" "$log" check "$crate"
-    touch -r "$log.began" "$program"
+    prove "$crate" "$log" run
+    keep_built "$root/crates/$crate/out/$crate" "$program" "$log.began"
 }
 
 need_program() { has_program || build_once has_program build_program "$log"; }
 
-# The program is for x86-64 and runs under the loader and C library of the kit, as rt itself runs it. On another processor the
-# kit has an emulator. Where there are words, they are run in its place, with the words that run it after them.
+# Where there are words, they are run in its place, with the program after them.
 run_program() { # [WORDS..]
-    tools=$home/on/$(uname -m)/toolchain
-    emulator=$tools/bin/qemu-x86_64
-    [ -x "$emulator" ] || emulator=''
-    for word in $(env | sed -n 's/^\(QEMU_[A-Za-z0-9_]*\)=.*/\1/p'); do unset "$word"; done
-    exec "$@" ${emulator:+"$emulator"} "$tools/lib/ld-linux-x86-64.so.2" --library-path "$tools/lib" "$program"
+    exec "$@" "$program"
 }
 
 # Takes the file named as standard input. A pipe can be read only once, so only a plain file is looked at before.
