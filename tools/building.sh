@@ -13,7 +13,7 @@ need() { # COMMAND WHAT
 # Sets home, the kit's folder, by the path of its guide, which rt doc prints.
 find_kit() {
     need rt "it is the command of the Rattle kit, the prover and compiler of the language that this is written in. It was proved with $(cat "$root/kit.txt")"
-    guide=$(rt doc) && home=$(cd "$(dirname "$guide")" && pwd -P) || { say 'rt doc does not tell where the kit is'; exit 2; }
+    guide=$(rt doc </dev/null) && home=$(cd "$(dirname "$guide")" && pwd -P) || { say 'rt doc does not tell where the kit is'; exit 2; }
 }
 
 # What is newer than a file, of all that is proved and of the kit, by the first such name. The folders out/, which rt writes, are none
@@ -85,7 +85,8 @@ prove() { # CRATE LOG WORDS..
     need setsid 'the package util-linux has it'
     { mkdir -p "$(dirname "$log")" && rm -f "$log.failed" && touch "$log.began"; } 2>/dev/null || cannot_write "$(dirname "$log")"
     say "proving what it is built from, $(crates_for "$each") crates; from nothing this takes some minutes"
-    [ "$(rt version)" = "$(cat "$root/kit.txt")" ] || say "the kit here is $(rt version); this repository was proved with $(cat "$root/kit.txt")"
+    kit=$(rt version </dev/null)
+    [ "$kit" = "$(cat "$root/kit.txt")" ] || say "the kit here is $kit; this repository was proved with $(cat "$root/kit.txt")"
     open_leash || exit 2
     setsid "$root/tools/prove" "$who" "$log" "$each" "$@" 8>&- &
     wait $! || { echo "$$ $(date)" >"$log.failed"; not_built "$log"; }
