@@ -20,14 +20,13 @@ PATTERN, SELDOM = 'a constructor in a pattern', 4
 
 COMPARISONS = {'<': ('<=', '>='), '<=': ('<', '>'), '>': ('>=', '<='), '>=': ('>', '<'),
                '==': ('!=', '<=', '>='), '!=': ('==', '<', '>')}
-TESTS = {'leb': ('ltb', 'eqb'), 'ltb': ('leb', 'eqb'), 'eqb': ('leb', 'ltb'), '≤': ('<',), '<': ('≤',)}
+TESTS = {'leb': ('ltb', 'eqb'), 'ltb': ('leb', 'eqb'), 'eqb': ('leb', 'ltb'), '≤': ('<',), '<': ('≤',),
+         'nat_le': ('nat_lt', 'nat_eq'), 'nat_lt': ('nat_le', 'nat_eq'), 'nat_eq': ('nat_le', 'nat_lt')}
 CONNECTIVES = {'&&': ('||',), '||': ('&&',), '&': ('|',), '|': ('&',)}
 SUMS = {'+': ('-', '*'), '-': ('+',), '*': ('+',), '/': ('%',), '%': ('/',), '+=': ('-=',), '-=': ('+=',),
         '<<': ('>>',), '>>': ('<<',)}
 DIRECTIONS = {'CW': 'CCW', 'CCW': 'CW', 'cw': 'ccw', 'ccw': 'cw'}
 SIGNS = {'+': '-', '-': '+'}
-# What ends the application that a field is taken of.
-OPERATORS = re.compile(r'[(){};,:=→λ∷≡≤<×]|\+\+?|[-*/%^.]|&&|\|\||in|let')
 
 
 class Place:
@@ -78,7 +77,7 @@ def code_comparison(place):
 
 def in_scope(place, found):
     """Those that the file imports, an operator by its name with the blanks."""
-    return [text for text in found if text in place.names or '_%s_' % text in place.names]
+    return [text for text in found if text in place.names or '◌%s◌' % text in place.names]
 
 
 def term_comparison(place):
@@ -180,19 +179,18 @@ def code_field(place):
 
 
 def term_chain(place):
-    """The type of what a field is taken of: a variable or an application, and fields of that."""
+    """The type of what a field is taken of: a name, or an application in brackets, and fields of that."""
     source, at = place.source, place.at - 1
-    while at >= 0 and (source.text_at(at) in (')', '}') and at in source.partner or not OPERATORS.fullmatch(source.text_at(at))):
-        at = source.partner.get(at, at) - 1
-    head = source.text_at(at + 1)
+    while source.tokens[at].sort == 'field':
+        at -= 1
+    head = source.text_at(source.partner[at] + 1 if at in source.partner else at)
     if head in place.variables:
         type_ = place.variables[head]
     else:
         item = place.names.get(head)
         type_ = item.type if item and item.sort == 'definition' else None
-    for token in source.tokens[at + 2:place.at]:
-        if token.sort == 'field' and type_:
-            type_ = place.world.types.get(sources.given(type_), {}).get(token.text[1:])
+    for token in source.tokens[at + 1:place.at]:
+        type_ = place.world.types.get(sources.given(type_), {}).get(token.text[1:]) if type_ else None
     return sources.given(type_) if type_ else None
 
 
@@ -325,9 +323,8 @@ def code_places(world, source):
             yield Place(world, source, at, names, {}, name), CODE
     for function in sources.functions(source):
         facts = {name: sources.plain(type_) for name, type_ in function.parameters.items()}
+        facts['result'] = sources.plain(function.result)
         for at in range(*function.contracts):
-            if source.text_at(at) == 'λ' and source.text_at(at + 1) != '_':
-                facts = dict(facts, **{source.text_at(at + 1): sources.plain(function.result)})
             if source.tokens[at].fact and not binds(source, at):
                 yield Place(world, source, at, terms, facts, function.name), TERM
         variables = variables_of(world, source, function, names)

@@ -2,11 +2,11 @@
 it, and its help says what is printed; SEED may be empty, and is drawn then. WORDS are --all, --above and --list.
 
 Everything is proved in copies of the tree, one for each job, outside the repository: a change is put into a copy, the crate is
-proved there by `rt check`, and the change is taken out again. Nothing is written to the repository.
+proved there by `rt check`, or a program by `rt run`, and the change is taken out again. Nothing is written to the repository. rt
+begins with what earlier checks of the same files on this machine kept, so the crates below are mostly not proved again.
 """
 
 import collections
-import fcntl
 import os
 import queue
 import random
@@ -32,13 +32,15 @@ TIMES, SECONDS, SECONDS_ABOVE = 10, 120, 1800
 SHOWN = 300
 
 # What the prover says of a fact that it does not find, and of anything else that it refuses.
-ERROR = re.compile(r'^(?P<file>[^:\s][^:]*):\d+:\d+: error(?P<code>\[[\w-]+\])?: (?P<text>.*)$')
-NOT_PROVED = re.compile(r'^note: (?P<file>[^:]+):\d+:\d+: it is not proved that .*$')
+ERROR = re.compile(r'^(?:\./)?(?P<file>[^:\s][^:]*):\d+:\d+: error(?P<code>\[[\w-]+\])?: (?P<text>.*)$')
+NOT_PROVED = re.compile(r'^note: (?:\./)?(?P<file>[^:]+):\d+:\d+: (?:it is not proved that .*|`search` found no proof .*)$')
 # It comes of another error, which stands before it.
 FOLLOWS = re.compile(r'was not admitted')
-# A proof names a need, a step or a field that the changed code does not leave, or gives one need where another is asked for.
+# A proof names a goal, a step or a field that the changed code does not leave, or gives one goal where another is asked for.
 UNFIT = re.compile(r'`[^`]*`: (?:(?:`[^`]*`: )?module `[^`]*` has no `|record `[^`]*` has no field `|`[^`]*` is not in scope|'
-                   r'expected type `tie\.Need-[^`]*`, but this has type `tie\.Need-)')
+                   r'expected type `goal\.[^`]*`, but this has type `goal\.)')
+# What rt prints before it runs a program, which is then proved.
+RUNS = 'rt: running out/'
 
 # A change that was tried: what came of it, the line that tells why, what the crates above say of it, and the seconds that it took.
 Result = collections.namedtuple('Result', 'verdict why above took')
@@ -73,7 +75,7 @@ def dependencies(root):
         for line in file:
             name, colon, below = line.partition('#')[0].partition(':')
             if colon:
-                found[name.strip()] = below.split()
+                found[name.split()[0]] = below.split()
     return found
 
 
@@ -103,22 +105,6 @@ def crates_above(below, crate):
 
 # The copies.
 
-def copy_proved(root, tree, crates):
-    """Copies what the repository has proved of some crates, so that it is not proved again; rt looks whether it still holds."""
-    with open(os.path.join(root, 'crates.txt')) as lock:
-        try:
-            fcntl.flock(lock, fcntl.LOCK_SH | fcntl.LOCK_NB)
-        except OSError:
-            say('another run is building in this tree, so what it has proved is proved again')
-            return
-        os.makedirs(os.path.join(tree, 'target', 'stamp'))
-        for crate in crates:
-            library, stamp = os.path.join('target', 'rlib', crate + '.rlib'), os.path.join('target', 'stamp', crate)
-            if os.path.isdir(os.path.join(root, library)) and os.path.isfile(os.path.join(root, stamp)):
-                shutil.copytree(os.path.join(root, library), os.path.join(tree, library))
-                shutil.copy(os.path.join(root, stamp), os.path.join(tree, stamp))
-
-
 def remove(room):
     """What was killed may still leave a file behind it while the folder goes."""
     for _ in range(50):
@@ -130,14 +116,32 @@ def remove(room):
 
 
 def copy_sources(root, tree):
-    """Copies the crates. Their must-fail edits have no part in this."""
-    os.makedirs(tree)
-    shutil.copytree(os.path.join(root, 'crates'), os.path.join(tree, 'crates'), ignore=shutil.ignore_patterns('must-fail'))
+    """Copies the crates. Their must-fail edits have no part in this, and neither has what rt keeps for itself."""
+    crates = os.path.join(root, 'crates')
+    for crate in os.listdir(crates):
+        for name in os.listdir(os.path.join(crates, crate)):
+            if name not in ('must-fail', 'out'):
+                one, other = os.path.join(crates, crate, name), os.path.join(tree, 'crates', crate, name)
+                os.makedirs(os.path.dirname(other), exist_ok=True)
+                (shutil.copytree if os.path.isdir(one) else shutil.copy)(one, other)
     for name in ('crates.txt', 'kit.txt'):
         shutil.copy(os.path.join(root, name), tree)
 
 
 # The prover.
+
+# A line that is there where a program is proved and does not do what it should.
+OTHERWISE = 'the program then does not write what its file stdout has'
+
+
+def wanted(folder):
+    """What the program of a crate must write."""
+    path = os.path.join(folder, 'stdout')
+    if not os.path.isfile(path):
+        return b''
+    with open(path, 'rb') as file:
+        return file.read()
+
 
 class Prover:
     """Runs rt, and ends what it has started when all is over. Each rt has a session of its own, so that it ends with all that it
@@ -147,26 +151,36 @@ class Prover:
         self.lock, self.running, self.over = threading.Lock(), set(), False
 
     def check(self, tree, crate, jobs=1, seconds=threading.TIMEOUT_MAX, follow=lambda line: None):
-        """The status of rt check, or None where it took too long, and the lines that it printed."""
-        with self.lock:
-            if self.over:
-                raise SystemExit
-            process = subprocess.Popen(
-                ['rt', 'check', crate], cwd=tree, env=dict(os.environ, RT_JOBS=str(jobs), RT_CUT='0'), stdin=subprocess.DEVNULL,
-                stdout=subprocess.PIPE, stderr=subprocess.STDOUT, encoding='utf-8', errors='replace', start_new_session=True)
-            self.running.add(process)
-        timer = threading.Timer(seconds, self.end, [process])
-        timer.start()
-        lines = []
-        with process.stdout:
-            for line in process.stdout:
-                lines.append(line.rstrip('\n'))
-                follow(lines[-1])
-        process.wait()
-        late = not timer.is_alive()
-        timer.cancel()
-        with self.lock:
-            self.running.discard(process)
+        """The status of rt check, or None where it took too long, and the lines that it printed. A program is run too, on its file
+        stdin; a line more is there where it then does not write what its file stdout has."""
+        folder = os.path.join(tree, 'crates', crate)
+        runs = os.path.isfile(os.path.join(folder, 'src', 'main.rt'))
+        words = ['rt', 'run' if runs else 'check', '--jobs', str(jobs)]
+        with open(os.path.join(folder, 'stdin') if runs and os.path.isfile(os.path.join(folder, 'stdin')) else os.devnull) as given, \
+                tempfile.TemporaryFile() as wrote:
+            with self.lock:
+                if self.over:
+                    raise SystemExit
+                # what rt itself says, of a program, comes on standard error
+                process = subprocess.Popen(
+                    words, cwd=folder, stdin=given, stdout=wrote if runs else subprocess.PIPE,
+                    stderr=subprocess.PIPE if runs else subprocess.STDOUT, encoding='utf-8', errors='replace', start_new_session=True)
+                self.running.add(process)
+            timer = threading.Timer(seconds, self.end, [process])
+            timer.start()
+            lines = []
+            with process.stderr if runs else process.stdout as said:
+                for line in said:
+                    lines.append(line.rstrip('\n'))
+                    follow(lines[-1])
+            process.wait()
+            late = not timer.is_alive()
+            timer.cancel()
+            with self.lock:
+                self.running.discard(process)
+            wrote.seek(0)
+            if not late and any(line.startswith(RUNS) for line in lines) and wrote.read() != wanted(folder):
+                lines.append(OTHERWISE)
         return None if late else process.returncode, lines
 
     def end(self, process):
@@ -182,9 +196,9 @@ class Prover:
                 self.end(process)
 
 
-def within(tree, crate, text):
-    """A line of the prover with the paths of the crate as they are there, and not too long."""
-    text = text.replace(os.path.join(tree, 'crates', crate) + os.sep, '').replace(tree + os.sep, '')
+def within(text):
+    """A line of the prover, whose paths are those of the crate, and not too long."""
+    text = re.sub(r'^(note: )?\./', r'\1', text)
     return text if len(text) <= SHOWN else text[:SHOWN] + ' ..'
 
 
@@ -199,26 +213,25 @@ def messages(lines):
     return found
 
 
-def judged(tree, crate, status, lines):
+def judged(status, lines):
     """What came of a crate with a change in it, and the line that tells why."""
     if status is None:
         return UNDECIDED, 'it took too long'
+    if OTHERWISE in lines:
+        return SURVIVED, 'but ' + OTHERWISE
     if status == 0:
         return SURVIVED, ''
-    if any(line.startswith('rt: %s proved, and its run FAILED' % crate) for line in lines):
-        return SURVIVED, 'but the program then does not write what its file stdout has'
-    if not any(line.startswith('rt: %s NOT PROVED (exit 1,' % crate) for line in lines):
-        return UNDECIDED, within(tree, crate, lines[-1] if lines else 'rt ended with status %d' % status)
     found = [match for match in (ERROR.match(text) or NOT_PROVED.match(text) for text in messages(lines)) if match]
+    if status != 1 or not found and 'logic=not-proved' not in lines:
+        return UNDECIDED, within('rt ended with status %d%s' % (status, ': ' + lines[-1] if lines else ''))
     causes = [match for match in found if not FOLLOWS.search(match.group())] or found
-    proofs = os.path.join(tree, 'crates', crate, 'proofs') + os.sep
-    language = [match for match in causes if match.re is ERROR and not match.group('file').startswith(proofs)]
+    language = [match for match in causes if match.re is ERROR and not match.group('file').startswith('proofs/')]
     facts = [match for match in causes if match.re is NOT_PROVED or not UNFIT.match(match.group('text'))]
     if language:
-        return LANGUAGE, within(tree, crate, language[0].group())
+        return LANGUAGE, within(language[0].group())
     if causes and not facts:
-        return FORM, within(tree, crate, causes[0].group())
-    return REFUSED, within(tree, crate, facts[0].group() if facts else lines[-1])
+        return FORM, within(causes[0].group())
+    return REFUSED, within(facts[0].group() if facts else lines[-1])
 
 
 # The run.
@@ -235,47 +248,46 @@ class Run:
         self.threads = []
 
     def make_trees(self, room):
-        """The copies, in which the unchanged crate and those below are proved; None where they are not."""
+        """The copies, in the first of which the unchanged crate and those below are proved; None where they are not. rt takes what it
+        kept there for the others."""
         trees = [os.path.join(room, str(job)) for job in range(self.jobs)]
-        copy_sources(self.root, trees[0])
-        copy_proved(self.root, trees[0], self.below if self.above else reached(self.below, self.crate))
-        # proved anew, to see how long it takes
-        stamp = os.path.join(trees[0], 'target', 'stamp', self.crate)
-        if os.path.exists(stamp):
-            os.remove(stamp)
-        if not self.prove_unchanged(trees[0]):
-            return None
-        for tree in trees[1:]:
-            shutil.copytree(trees[0], tree, symlinks=True)
-        return trees
+        for tree in trees:
+            copy_sources(self.root, tree)
+        return trees if self.prove_unchanged(trees[0]) else None
 
     def prove_unchanged(self, tree):
         """Whether the crate is proved as it stands. Says how far it is, and notes how long a change may take."""
         names = reached(self.below, self.crate)
         self.progress.tell('proving the unchanged crate and what is below it, %d in all' % len(names))
-        done = []
+        told, began = [], time.time()
 
         def follow(line):
-            match = re.match(r'rt: (\w+) proved \((\d+ s|unchanged.*)\)$', line)
+            nonlocal began
+            match = re.match(r'crate (\w+): modules ', line)
             if match:
-                done.append(match.group(1))
-                self.progress.tell('crate %d of %d: %s' % (len(done), len(names), line[len('rt: '):]))
-                if match.group(1) == self.crate and match.group(2).endswith(' s'):
-                    self.limit = max(SECONDS, TIMES * int(match.group(2)[:-2]))
+                told.append(match.group(1))
+            elif line.startswith('logic=proved ') and told:
+                # of what stands below it all is proved, also what rt says nothing of
+                done = {below for name in told for below in reached(self.below, name)}
+                self.progress.tell('crate %d of %d: %s proved' % (len(done), len(names), told[-1]))
+                if told[-1] == self.crate:
+                    self.limit = max(SECONDS, TIMES * (time.time() - began))
+                began = time.time()
 
         status, lines = self.prover.check(tree, self.crate, self.jobs, follow=follow)
         self.progress.clear()
-        if status != 0:
+        if status != 0 or OTHERWISE in lines:
             print('\n'.join(lines[-20:]), file=sys.stderr)
             say('%s is not proved as it stands, so no change of it can be tried' % self.crate)
-        return status == 0
+            return False
+        return True
 
     def try_above(self, tree):
         """What the crates above say of a change that stands in a copy: the first that refuses it, or that none does."""
         for name in self.above:
             status, lines = self.prover.check(tree, name, seconds=SECONDS_ABOVE)
-            if status != 0:
-                return '%s, %s: %s' % ((name,) + judged(tree, name, status, lines))
+            if status != 0 or OTHERWISE in lines:
+                return '%s, %s: %s' % ((name,) + judged(status, lines))
         return 'none refuses it' if self.above else 'there is none'
 
     def try_change(self, tree, change):
@@ -288,7 +300,7 @@ class Run:
             with open(path, 'w', encoding='utf-8', newline='') as file:
                 file.write(text[:change.start] + change.new + text[change.start + change.length:])
             status, lines = self.prover.check(tree, self.crate, seconds=self.limit)
-            verdict, why = judged(tree, self.crate, status, lines)
+            verdict, why = judged(status, lines)
             above = self.try_above(tree) if verdict == SURVIVED and self.above is not None else ''
         finally:
             with open(path, 'w', encoding='utf-8', newline='') as file:

@@ -1,7 +1,7 @@
 """What the sources of the crates declare: for changes.py, which changes a token for another that fits in its place.
 
-A source is a file of src/, in Rattle, or one of specs/, in antt; a contract of Rattle has antt between its corners. Both are read
-as far as it takes to tell the type of a name where that is easy. What can't be told is left out, and no fault: a change is then not
+A source is a file of src/, in Rattle, or one of specs/, in antt; a clause of a Rattle contract has antt between its braces. Both are
+read as far as it takes to tell the type of a name where that is easy. What can't be told is left out, and no fault: a change is then not
 offered, or it is refused for a name or a type.
 """
 
@@ -9,7 +9,7 @@ import collections
 import os
 import re
 
-# Sorts: name, number, quoted, field (antt's `.name`), symbol. A token is a fact where it stands between the corners of a contract.
+# Sorts: name, number, quoted, field (antt's `.name`), symbol. A token is a fact where it stands between the braces of a clause.
 Token = collections.namedtuple('Token', 'sort text start line column fact')
 # What a name is: a const, function, definition or constructor, or other, and its type: a text, or for a function its signature. Of
 # a constructor the type is what it belongs to and what it takes. `start` is where a file declares it for itself.
@@ -26,23 +26,24 @@ Line = collections.namedtuple('Line', 'sort name first last around')
 SUFFIX = r'(?:[iu](?:8|16|32|64|size)|f32|f64)?'
 RATTLE = re.compile(r'''
     (?P<comment>//[^\n]*)
-  | (?P<fact>⌜[^⌝]*⌝)
   | (?P<quoted>b?"(?:[^"\\]|\\.)*"|b'(?:[^'\\]|\\.)')
   | (?P<number>(?:0x[\da-fA-F_]+|\d[\d_]*(?:\.\d+)?)%s)
   | (?P<lifetime>'\w+)
   | (?P<name>[^\W\d]\w*)
   | (?P<symbol>::|->|=>|\.\.=?|<<|>>|[-+*/%%&|<>=!]=|&&|\|\||\S)
 ''' % SUFFIX, re.VERBOSE)
-WORD = r'[^\s(){};,"⌜⌝.]+'
+WORD = r'[^\s(){};,".]+'
+# A word that begins with a capital may be a module's, and what follows its dots a name there; what follows those of another is a field.
 ANTT = re.compile(r'''
     (?P<comment>--[^\n]*)
   | (?P<quoted>"(?:[^"\\]|\\.)*")
-  | (?P<field>(?<=\s)\.[^\W\d][^\s(){};,"⌜⌝.]*)
-  | (?P<name>%s(?:\.%s)*)
+  | (?P<field>(?<=\S)\.[^\W\d][^\s(){};,".]*)
+  | (?P<name>[A-Z]%s(?:\.%s)+|[A-Z](?:\.%s)+|%s)
   | (?P<symbol>\S)
-''' % (WORD, WORD), re.VERBOSE)
+''' % (WORD, WORD, WORD, WORD), re.VERBOSE)
 NUMERAL = re.compile(r'\d+|0x[\da-fA-F]+')
 CLOSING = {'(': ')', '[': ']', '{': '}'}
+CLAUSES = ('requires', 'ensures')
 MODIFIERS = ('abbrev', 'unfoldable', 'pub', 'opaque')
 # What is declared in each block.
 DECLARED_IN = {'record': 'field', 'data': 'constructor', 'module': 'definition'}
@@ -52,16 +53,32 @@ LIBRARY = {'min': 'ℕ → ℕ → ℕ', 'max': 'ℕ → ℕ → ℕ', 'take': '
 
 
 def lexed(text, pattern, start=0, end=None, fact=False):
-    """The tokens of a text; those of a contract's facts are antt's."""
-    for match in pattern.finditer(text, start, len(text) if end is None else end):
-        sort = match.lastgroup
-        if sort == 'fact':
-            yield from lexed(text, ANTT, match.start() + 1, match.end() - 1, True)
-        elif sort != 'comment':
+    """The tokens of a text; those of a contract's clauses are antt's. A clause is a word, a name perhaps, and a group in braces."""
+    end, clause = len(text) if end is None else end, False
+    match = pattern.search(text, start, end)
+    while match:
+        sort, after = match.lastgroup, match.end()
+        if sort != 'comment':
             if pattern is ANTT and NUMERAL.fullmatch(match.group()):
                 sort = 'number'
             line, column = text.count('\n', 0, match.start()) + 1, match.start() - text.rfind('\n', 0, match.start()) - 1
             yield Token(sort, match.group(), match.start(), line, column, fact)
+            if clause and match.group() == '{':
+                after = closing_brace(text, after, end)
+                yield from lexed(text, ANTT, match.end(), after, True)
+            clause = pattern is RATTLE and (match.group() in CLAUSES or clause and sort == 'name')
+        match = pattern.search(text, after, end)
+
+
+def closing_brace(text, at, end):
+    """Where the brace stands that closes the group which begins here."""
+    depth = 1
+    while at < end:
+        depth += (text[at] == '{') - (text[at] == '}')
+        if not depth:
+            break
+        at += 1
+    return at
 
 
 def partners(tokens):
@@ -91,10 +108,14 @@ class Source:
         self.imports = list(self.imported())
 
     def imported(self):
-        for ghost, path in re.findall(r'^\s*(?:pub )?(ghost )?use ([^;\n]+)', self.text, re.MULTILINE):
+        ends = r'([^;]+);' if self.rattle else r'([^\n]+)'
+        for ghost, path in re.findall(r'^[ \t]*(?:pub )?(ghost )?use ' + ends, self.text, re.MULTILINE):
             if self.rattle and not ghost:
-                module, _, name = path.rpartition('::')
-                yield tuple((self.crate if part == 'crate' else part) for part in module.split('::')), name
+                module, _, names = path.partition('::{') if '::{' in path else path.rpartition('::')
+                module = tuple((self.crate if part == 'crate' else part) for part in module.split('::'))
+                for name in names.rstrip('} \n').split(','):
+                    if name.strip():
+                        yield module, name.split(' as ')[-1].strip()
             elif '.{' in path:
                 module, _, names = path.partition('.{')
                 for name in names.rstrip('} ').split(', '):
@@ -163,11 +184,11 @@ def function(source, at):
     """The function whose name stands at a place."""
     opening = source.find(at, '(')
     arrow = source.after(opening)
-    after = source.find(arrow, 'requires', 'ensures', '{', ';')
+    after = source.find(arrow, *CLAUSES, '{', ';')
     result = source.join(arrow + 1, after) if source.text_at(arrow) == '->' else ''
     body = after
-    while source.text_at(body) in ('requires', 'ensures'):
-        body = source.after(body + 1)
+    while source.text_at(body) in CLAUSES:
+        body = source.after(source.find(body, '{'))
     end = source.partner.get(body, body)
     return Function(source.text_at(at), named_types(source, opening), result, (after, body), (body, end))
 
@@ -348,8 +369,8 @@ class World:
 
     def imported(self, module, name):
         """What a name is that antt imports from a module."""
-        parts = re.split(r'[.·]', module)
-        if parts[-1] == 'the-variants' and name in self.enums.get(parts[-2], {}):
+        parts = module.split('.')
+        if parts[-1] == 'TheVariants' and name in self.enums.get(parts[-2], {}):
             return Item('constructor', (parts[-2], tuple(plain(type_) for type_ in self.enums[parts[-2]][name][1])), None)
         if parts[0] == 'Rattle' and len(parts) > 2:
             inner = tuple(parts[len(parts) - parts[::-1].index('specs'):]) if 'specs' in parts else ()
