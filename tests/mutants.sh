@@ -4,45 +4,54 @@
 . "$(dirname "$0")/tree"
 cp "$root/mutants" "$tree/mutants" || exit 2
 
-# A repository of two crates, and one above them of which there is nothing but its name.
+# A repository of two crates, a program, and one above them of which there is nothing but its name.
 for crate in "$tree"/crates/*; do
-    case ${crate##*/} in digits | text) ;; *) rm -r "$crate" ;; esac
+    case ${crate##*/} in digits | text | scanlist) ;; *) rm -r "$crate" ;; esac
 done
-printf 'digits:\ntext: digits\nabove: text\n' >"$tree/crates.txt"
+mkdir -p "$tree/crates/above/src"
+printf 'digits:\ntext: digits\nabove: text\nscanlist: text\n' >"$tree/crates.txt"
 
 # Another stand-in: it proves the crates as they are. With a change, whose lines it keeps, it does what $OUTCOME says, or, of several
-# words, what the one says whose turn it is.
+# words, what the one says whose turn it is. Of a crate that it has proved before it says nothing.
 cat >"$room/bin/rt" <<'END'
 #!/bin/sh
-echo "$* $$" >>"$CALLS"
-here=$(pwd -P)/crates/$2
-mkdir -p target/stamp
-for crate in digits text; do
-    [ ! -e "target/stamp/$crate" ] || { echo "rt: $crate proved (unchanged since it was last proved)"; continue; }
-    echo "rt: $crate proved (0 s)"
-    echo proved >"target/stamp/$crate"
-    [ "$crate" != "$2" ] || break
-done
-if diff -r -x must-fail "$TREE/crates" crates >"$CHANGED.$$"; then rm "$CHANGED.$$"; exit; fi
-crate=$2
+crate=${PWD##*/}
+echo "$1 $crate $$" >>"$CALLS"
+for each in digits text "$crate"; do
+    mkdir -p "../$each/out"
+    [ -e "../$each/out/proved" ] || printf 'crate %s: modules loaded=0 checked=1\nlogic=proved functions=1\n' "$each" >&2
+    : >"../$each/out/proved"
+    [ "$each" != "$crate" ] || break
+done 2>&1 | if [ "$1" = run ]; then cat >&2; else cat; fi
+runs() { # FILE
+    [ "$1" != run ] || { echo "rt: running out/$crate; to give it other input, run that file yourself" >&2; cat "$2"; }
+}
+if diff -r -x must-fail -x out "$TREE/crates" .. >"$CHANGED.$$"; then rm "$CHANGED.$$"; runs "$1" stdout; exit; fi
+words="$1"
 set -- $OUTCOME
 [ $# = 1 ] || shift $(($(ls "$CHANGED".* | wc -l) - 1))
-line="$here/proofs/Laws.antt:1:1: error: \`law\`:"
+line='./proofs/Laws.antt:1:1: error: `law`:'
 case $1 in
-proves) exit ;;
+proves) runs "$words" stdout; exit ;;
+writes-otherwise) runs "$words" stdin; exit ;;
 refuses) ;;
 refuses-above) [ "$crate" = above ] && grep -q '^diff .*/src/' "$CHANGED.$$" || exit 0 ;;
-for-a-name) line="$here/specs/Defs.antt:1:1: error: \`this\` is not in scope" ;;
-for-a-type) line="$here/src/lib.rt:1:1: error[mismatched-types]: expected \`u8\`, found \`bool\`" ;;
+for-a-name) line='./specs/Defs.antt:1:1: error: `this` is not in scope' ;;
+for-a-type) line='src/lib.rt:1:1: error[mismatched-types]: expected `u8`, found `bool`' ;;
 by-its-form) line="$line record \`After\`
   has no field \`add\`" ;;
-not-found) line="note: $here/src/lib.rt:1:1: it is not proved that what the function ensures holds" ;;
-can-not-tell) echo "rt: $crate NOT PROVED (exit 3, 0 s)"; exit 1 ;;
+by-a-goal) line='./proofs/f/Answers.antt:2:9: error: `returns`: `goal.returns`: module `Rattle.digits.proofs.f.Goals` has no `returns` that can be named from here
+note: src/lib.rt:1:1: it is not proved that what the function ensures holds (`returns-2`); `search` gave up at one of its limits' ;;
+by-a-false-goal) line='./proofs/f/Answers.antt:2:9: error: `returns`: `goal.returns`: module `Rattle.digits.proofs.f.Goals` has no `returns` that can be named from here
+note: src/lib.rt:1:1: it is not proved that what the function ensures holds (`returns-2`); the facts known there allow values at which this goal is false' ;;
+not-found) line='note: src/lib.rt:1:1: it is not proved that what the function ensures holds' ;;
+can-not-tell) echo 'antt ran out of steps'; exit 3 ;;
 waits) sleep 50 ;;
 esac
 echo "$line"
-echo "$here/proofs/More.antt:2:2: error: \`more\`: \`law\` was not admitted, so this cannot be checked"
-echo "rt: $crate NOT PROVED (exit 1, 0 s)"
+echo './proofs/More.antt:2:2: error: `more`: `law` was not admitted, so this cannot be checked'
+echo './proofs/More.antt:9:1: error: 1 declaration that depends on `law`, which was rejected, was not checked: other'
+echo 'logic=not-proved'
 exit 1
 END
 mkdir "$room/temp"
@@ -155,6 +164,18 @@ sed -n 's/^  after:  //p' "$room/out" | sort >"$room/listed"
 sed -n 's/^> *//p' "$CHANGED".* | sort | cmp -s - "$room/listed" || fail 'what is tried is not what is listed'
 must_count refuses '7 refused, 0 for a name or a type, 0 by the form of a proof alone, 0 not refused, 0 undecided'
 [ "$(wc -l <"$room/out")" = 1 ] || fail "where all are refused it prints: $(cat "$room/out")"
+RT_JOBS=1 must_count 'refuses not-found for-a-type by-its-form by-a-goal by-a-false-goal can-not-tell' \
+    '3 refused, 1 for a name or a type, 2 by the form of a proof alone, 0 not refused, 1 undecided' --all
+cat >"$room/expected" <<'END'
+  refused: proofs/Laws.antt:1:1: error: `law`:
+  refused: note: src/lib.rt:1:1: it is not proved that what the function ensures holds
+  refused for a name or a type: src/lib.rt:1:1: error[mismatched-types]: expected `u8`, found `bool`
+  refused by the form of a proof alone: proofs/Laws.antt:1:1: error: `law`: record `After` has no field `add`
+  refused by the form of a proof alone: proofs/f/Answers.antt:2:9: error: `returns`: `goal.returns`: module `Rattle.digits.proofs.f.Goals` has no `returns` that can be named from here
+  refused: note: src/lib.rt:1:1: it is not proved that what the function ensures holds (`returns-2`); the facts known there allow values at which this goal is false
+  undecided: rt ended with status 3: antt ran out of steps
+END
+grep -e '^  [nru]' "$room/out" | cmp -s - "$room/expected" || fail "with --all it prints: $(cat "$room/out")"
 RT_JOBS=1 must_count 'proves refuses not-found for-a-name for-a-type by-its-form can-not-tell' \
     '2 refused, 2 for a name or a type, 1 by the form of a proof alone, 1 not refused, 1 undecided' --all
 cat >"$room/expected" <<'END'
@@ -164,7 +185,7 @@ cat >"$room/expected" <<'END'
   refused for a name or a type: specs/Defs.antt:1:1: error: `this` is not in scope
   refused for a name or a type: src/lib.rt:1:1: error[mismatched-types]: expected `u8`, found `bool`
   refused by the form of a proof alone: proofs/Laws.antt:1:1: error: `law`: record `After` has no field `add`
-  undecided: rt: digits NOT PROVED (exit 3, 0 s)
+  undecided: rt ended with status 3: antt ran out of steps
 END
 grep -e '^  [nru]' "$room/out" | cmp -s - "$room/expected" || fail "with --all it prints: $(cat "$room/out")"
 must_count refuses-above '0 refused, 0 for a name or a type, 0 by the form of a proof alone, 7 not refused, 0 undecided' --above
@@ -179,13 +200,19 @@ mkdir -p "$room/other/crates"
 TREE=$room/other OUTCOME=refuses mutants 1 digits
 grep -q '^mutants: digits is not proved as it stands' "$room/err" || fail "a crate that is not proved: it says $(cat "$room/err")"
 
-# What the repository has proved below the crate is not proved again; the crate itself is, and nothing is written there.
-mkdir -p "$tree/target/stamp" "$tree/target/rlib/digits.rlib" "$tree/target/rlib/text.rlib"
-echo proved | tee "$tree/target/stamp/digits" >"$tree/target/stamp/text"
+# A program is run too.
+OUTCOME=proves mutants 0 scanlist 3 7
+[ "$(grep -c '^  not refused$' "$room/out")" = 3 ] || fail "of a program it prints: $(cat "$room/out")"
+OUTCOME=writes-otherwise mutants 0 scanlist 3 7
+[ "$(grep -c '^  not refused: but the program then does not write what its file stdout has$' "$room/out")" = 3 ] ||
+    fail "of a program that writes otherwise it prints: $(cat "$room/out")"
+
+# Nothing that rt keeps in the repository is copied, and nothing is written there.
+mkdir -p "$tree/crates/digits/out" && : >"$tree/crates/digits/out/proved"
 sleep 0.02
 touch "$room/mark"
 OUTCOME=proves mutants 0 text 3 7
-grep -q 'crate 1 of 2: digits proved (unchanged' "$room/err" && grep -q 'crate 2 of 2: text proved (0 s)' "$room/err" || fail "with target/ it says: $(cat "$room/err")"
+grep -qx 'mutants: crate 1 of 2: digits proved' "$room/err" && grep -qx 'mutants: crate 2 of 2: text proved' "$room/err" || fail "of how far it is it says: $(cat "$room/err")"
 [ -z "$(find "$tree" -newer "$room/mark")" ] || fail "it writes to the repository: $(find "$tree" -newer "$room/mark")"
 [ -z "$(ls "$room/temp")" ] || fail "it leaves behind: $(ls "$room/temp")"
 

@@ -34,8 +34,10 @@ SHOWN = 300
 # What the prover says of a fact that it does not find, and of anything else that it refuses.
 ERROR = re.compile(r'^(?:\./)?(?P<file>[^:\s][^:]*):\d+:\d+: error(?P<code>\[[\w-]+\])?: (?P<text>.*)$')
 NOT_PROVED = re.compile(r'^note: (?:\./)?(?P<file>[^:]+):\d+:\d+: (?:it is not proved that .*|`search` found no proof .*)$')
-# It comes of another error, which stands before it.
-FOLLOWS = re.compile(r'was not admitted')
+# Of a fact that it does not find it may say more: that it is false somewhere.
+FALSE = re.compile(r'the facts known there allow values at which this goal is false')
+# It comes of another error.
+FOLLOWS = re.compile(r'was not admitted|which was rejected, w(?:as|ere) not checked')
 # A proof names a goal, a step or a field that the changed code does not leave, or gives one goal where another is asked for.
 UNFIT = re.compile(r'`[^`]*`: (?:(?:`[^`]*`: )?module `[^`]*` has no `|record `[^`]*` has no field `|`[^`]*` is not in scope|'
                    r'expected type `goal\.[^`]*`, but this has type `goal\.)')
@@ -226,7 +228,10 @@ def judged(status, lines):
         return UNDECIDED, within('rt ended with status %d%s' % (status, ': ' + lines[-1] if lines else ''))
     causes = [match for match in found if not FOLLOWS.search(match.group())] or found
     language = [match for match in causes if match.re is ERROR and not match.group('file').startswith('proofs/')]
-    facts = [match for match in causes if match.re is NOT_PROVED or not UNFIT.match(match.group('text'))]
+    unfit = [match for match in causes if match.re is ERROR and UNFIT.match(match.group('text'))]
+    # a goal of another name lost its answer, and that the search does not find one shows nothing
+    facts = [match for match in causes if match not in unfit
+             and not (unfit and match.re is NOT_PROVED and not FALSE.search(match.group()))]
     if language:
         return LANGUAGE, within(language[0].group())
     if causes and not facts:
