@@ -150,8 +150,8 @@ must_count() { # OUTCOME COUNTS WORDS..
     shift 2
     rm -f "$CHANGED".*
     : >"$calls"
-    OUTCOME=$outcome mutants 0 "$@" digits 7 3
-    [ "$(tail -n 1 "$room/out")" = "digits: 7 changes, seed 3: $counts" ] || fail "$outcome: it counts $(tail -n 1 "$room/out")"
+    OUTCOME=$outcome mutants 0 "$@" digits 7 7
+    [ "$(tail -n 1 "$room/out")" = "digits: 7 changes, seed 7: $counts" ] || fail "$outcome: it counts $(tail -n 1 "$room/out")"
     for each in "$CHANGED".*; do
         [ "$(grep -c '^[<>]' "$each")" = 2 ] && grep -q '^diff .*/crates/digits/s[a-z]*/.*[.]' "$each" || fail "$outcome: it tries $(cat "$each")"
     done
@@ -159,7 +159,7 @@ must_count() { # OUTCOME COUNTS WORDS..
 must_count proves '0 refused, 0 for a name or a type, 0 by the form of a proof alone, 7 not refused, 0 undecided'
 [ "$(grep -c '^  before: ' "$room/out")" = 7 ] && [ "$(grep -c '^  not refused$' "$room/out")" = 7 ] || fail "where none is refused it prints: $(cat "$room/out")"
 [ "$(grep -c '^check digits ' "$calls")" = 8 ] && [ "$(wc -l <"$calls")" = 8 ] || fail "for seven changes it calls rt: $(cat "$calls")"
-mutants 0 --list digits 7 3
+mutants 0 --list digits 7 7
 sed -n 's/^  after:  //p' "$room/out" | sort >"$room/listed"
 sed -n 's/^> *//p' "$CHANGED".* | sort | cmp -s - "$room/listed" || fail 'what is tried is not what is listed'
 must_count refuses '7 refused, 0 for a name or a type, 0 by the form of a proof alone, 0 not refused, 0 undecided'
