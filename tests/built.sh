@@ -68,10 +68,8 @@ builds=$((builds + 1))
 must_build 'a source that changed while it was built'
 
 # Another kit.
-mkdir "$room/kit" && cp "$(dirname "$(rt doc)")/KIT-ID" "$room/kit/KIT-ID"
-printf '#!/bin/sh\ncase $1 in doc) echo %s/kit/START-HERE.md ;; *) exec %s "$@" ;; esac\n' "$room" "$REAL" >"$room/other-rt"
-chmod +x "$room/other-rt"
-REAL=$room/other-rt
+mkdir "$room/kit" && cp "$(dirname "$GUIDE")/KIT-ID" "$room/kit/KIT-ID"
+GUIDE=$room/kit/START-HERE.md
 must_build 'a newer kit'
 try scanlist
 must_build 'a newer kit, and the other program'

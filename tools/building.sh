@@ -10,9 +10,12 @@ need() { # COMMAND WHAT
     command -v "$1" >/dev/null 2>&1 || { say "there is no $1 on the path: $2"; exit 2; }
 }
 
-# Sets home, the kit's folder, by the path of its guide, which rt doc prints.
+# Sets home, the kit's folder: the one that rt stands in, or else that of its guide, by the path that rt doc prints. It takes rt a while
+# to start.
 find_kit() {
     need rt "it is the command of the Rattle kit, the prover and compiler of the language that this is written in. It was proved with $(cat "$root/kit.txt")"
+    home=$(dirname "$(dirname "$(readlink -f -- "$(command -v rt)")")")
+    [ -f "$home/KIT-ID" ] && return
     guide=$(rt doc </dev/null) && home=$(cd "$(dirname "$guide")" && pwd -P) || { say 'rt doc does not tell where the kit is'; exit 2; }
 }
 
