@@ -4,8 +4,8 @@
 // The file stdin has document 01's worked example, on channel 0, and its marked cases: case 9 first, on the fresh table, and then
 // each on a channel of its own, cases 1 to 8 on channels 1 to 8 and case 10 on B. That case 2 leaves no fraction is shown by a tick
 // at 999 pps, which would give a pulse if a thousandth were left. Lines that are none, `K 1` among them since it is not the first,
-// `STQ?`, which has no form on this card, a line of over 80 bytes and a last line without its line feed stand at the end. The
-// interpreter takes some 50,000 steps for a tick and ends at ten million, so the ticks are few; tests/long.txt has the long waits.
+// `STQ?`, which has no form on this card, a line of over 80 bytes and a last line without its line feed stand at the end. `rt try` runs
+// it on an interpreter too, which takes long for a tick, so the ticks are few; tests/long.txt has the long waits.
 
 #![tactic(auto)]
 
