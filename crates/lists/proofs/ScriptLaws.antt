@@ -29,7 +29,6 @@ use Rattle.line.specs.Forms.{row, starting, setting, mspd, forms, fields_as_row,
 use Rattle.line.specs.Computing.{computing_line}
 use Rattle.line.proofs.FormLaws.{row_found}
 use Rattle.orders.specs.Values.{value_in_range}
-use Rattle.jobs.specs.declared.Job.TheVariants as J
 use Rattle.jobs.specs.Jobs.{lines_of, lettered, job_of}
 use Rattle.jobs.specs.Texts.{plain_text, signed_text}
 use Rattle.jobs.proofs.JobLaws.{wait_read}

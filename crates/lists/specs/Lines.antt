@@ -2,7 +2,6 @@
 -- dwell. The last line printed is the dwell total .. At a refusal .. number and offset replace the total."
 use Prim.Native.Char.{code}
 use Rattle.std.specs.Prelude.{ℕ, List, [], ◌∷◌, ◌++◌, Bool, cond}
-use Prim.Native.String as S
 use Rattle.text.specs.Text.{bytes, hex_digit}
 use Rattle.jobs.specs.Texts.{plain_text, signed_text}
 use Rattle.steps.specs.declared.Fault.{Fault}

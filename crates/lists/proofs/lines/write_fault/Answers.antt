@@ -7,7 +7,6 @@ use Rattle.lists.proofs.OutLaws.{wrote_more, then_within, total_within, fault_pa
 use Rattle.lists.specs.Lines.{total_text}
 use Rattle.jobs.specs.Texts.{plain_text}
 use Rattle.text.specs.Text.{bytes}
-use borrow.Author.Rules.{rules}
 use Rattle.lists.proofs.lines.write_fault.Goals as goal
 
 pub slice_bounds-write_then-count : goal.slice_bounds-write_then-count

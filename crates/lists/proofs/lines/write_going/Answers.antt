@@ -4,7 +4,6 @@ use native.Mathlib.Omega.{arith}
 use Prim.Native.Nat.{◌%◌}
 use Rattle.text.specs.Text.{bytes, hex_digit, signed_decimal}
 use Rattle.lists.specs.Lines.{going_text, total_text}
-use borrow.Author.Rules.{rules}
 use Rattle.lists.proofs.lines.write_going.Goals as goal
 
 pub returns-then-m : goal.returns-then-m

@@ -4,7 +4,6 @@ use native.Mathlib.Omega.{arith}
 use lib.ListN.{length-take, length-drop}
 use Rattle.lists.proofs.OutLaws.{wrote_more, speed_within, going_within}
 use Rattle.lists.specs.Lines.{setting_text, select_text, going_text, move_text}
-use borrow.Author.Rules.{rules}
 use Rattle.lists.proofs.lines.write_move.Goals as goal
 
 pub slice_bounds-write_going-count : goal.slice_bounds-write_going-count

@@ -3,7 +3,6 @@ use native.Mathlib.Omega.{arith}
 use Rattle.lists.proofs.OutLaws.{wrote_more, total_within}
 use Rattle.lists.specs.Lines.{total_text}
 use Rattle.text.specs.Text.{bytes}
-use borrow.Author.Rules.{rules}
 use Rattle.lists.proofs.lines.write_numbered.Goals as goal
 
 pub overflow_add-result : goal.overflow_add-result

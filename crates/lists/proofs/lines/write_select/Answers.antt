@@ -4,7 +4,6 @@ use native.Mathlib.Omega.{arith}
 use Prim.Native.Nat.{◌%◌}
 use Rattle.text.specs.Text.{bytes, hex_digit}
 use Rattle.lists.specs.Lines.{select_text}
-use borrow.Author.Rules.{rules}
 use Rattle.lists.proofs.lines.write_select.Goals as goal
 
 pub returns : goal.returns

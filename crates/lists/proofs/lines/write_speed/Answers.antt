@@ -3,7 +3,6 @@ use native.Mathlib.Omega.{arith}
 use lib.ListN.{length-take, length-drop}
 use Rattle.lists.proofs.OutLaws.{wrote_more, setting_within, select_within}
 use Rattle.lists.specs.Lines.{setting_text, select_text}
-use borrow.Author.Rules.{rules}
 use Rattle.lists.proofs.lines.write_speed.Goals as goal
 
 pub slice_bounds-write_select-count : goal.slice_bounds-write_select-count

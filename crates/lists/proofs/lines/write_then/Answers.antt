@@ -4,7 +4,6 @@ use lib.ListN.{length-append}
 use Rattle.text.proofs.TextLaws.{decimal_within}
 use Rattle.jobs.specs.Texts.{plain_text}
 use Rattle.jobs.proofs.OutLaws.{text_byte}
-use borrow.Author.Rules.{rules}
 use Rattle.lists.proofs.lines.write_then.Goals as goal
 
 pub write_decimal-k-requires : goal.write_decimal-k-requires

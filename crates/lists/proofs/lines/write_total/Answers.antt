@@ -1,7 +1,6 @@
 -- `lists::lines::write_total` meets its contract. Assumes nothing.
 use Rattle.lists.specs.Lines.{total_text}
 use Rattle.text.specs.Text.{bytes}
-use borrow.Author.Rules.{rules}
 use Rattle.lists.proofs.lines.write_total.Goals as goal
 
 pub returns : goal.returns

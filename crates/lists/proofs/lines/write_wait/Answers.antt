@@ -1,7 +1,6 @@
 -- `lists::lines::write_wait` meets its contract. Assumes nothing.
 use Rattle.lists.specs.Lines.{wait_text, total_text}
 use Rattle.text.specs.Text.{bytes}
-use borrow.Author.Rules.{rules}
 use Rattle.lists.proofs.lines.write_wait.Goals as goal
 
 pub returns : goal.returns

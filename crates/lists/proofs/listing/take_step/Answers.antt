@@ -2,7 +2,6 @@
 use mathlib.Core.Path.{refl, sym, ◌∙◌}
 use native.Mathlib.Omega.{arith}
 use Rattle.lists.proofs.ListLaws.{last_near, drive_channel}
-use borrow.Author.Rules.{rules}
 use Rattle.lists.proofs.listing.take_step.Goals as goal
 
 pub write_last-requires : goal.write_last-requires

@@ -1,6 +1,5 @@
 -- `lists::listing::write_last` meets its contract. Assumes nothing.
 use native.Mathlib.Omega.{arith}
-use borrow.Author.Rules.{rules}
 use Rattle.lists.proofs.listing.write_last.Goals as goal
 
 pub write_fault-requires : goal.write_fault-requires
