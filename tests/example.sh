@@ -11,3 +11,7 @@ case $? in
 esac
 cmp -s "$room/out" "$tests/example.out" || fail "it printed something else: $(diff "$tests/example.out" "$room/out")"
 must_have_built 1 'one run'
+
+"$tree/host/run" archive >"$room/out" 2>"$room/err" || fail "the archive was not told: $(cat "$room/err")"
+[ "$(cat "$room/out")" = "$tree/target/host/liburqolina.a" ] && [ -f "$tree/target/host/liburqolina.a" ] || fail "the archive is not at $(cat "$room/out")"
+must_have_built 1 'the archive of the run before'
