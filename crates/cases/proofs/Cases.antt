@@ -13,7 +13,7 @@ use Rattle.urqolina.specs.Computing.{computing_urqolina}
 use Rattle.laws.specs.Sequences as Q
 use Rattle.cases.proofs.Steps.{Step, says, reads, ticks, holds, lent, fresh, fresh_four, after, seen_by, left_by, seen, seen_four, tried, stated, checked, four_checked, all_checked, tried_checked}
 
--- Local mode refuses starts, settings, SPC and all_reply before their values are looked at, and a line with no form before
+-- Local mode refuses starts, settings, SPC and all-reply before their values are looked at, and a line with no form before
 -- that; reads, stops, LOC, REM and the ERR family are taken. Each number leaves its flag, and ERR? tells the lowest.
 local_mode : List Step
 local_mode =
@@ -42,7 +42,7 @@ refusals_checked : seen refusals ≡ map stated refusals
 unfolding computing_urqolina refusals fresh Q.after after seen_by stated
 refusals_checked = checked refusals refl
 
--- With all_reply on every line is answered: a read with its own reply, the others and refusals with their text; as it is
+-- With all-reply on every line is answered: a read with its own reply, the others and refusals with their text; as it is
 -- after the command.
 all_reply : List Step
 all_reply =

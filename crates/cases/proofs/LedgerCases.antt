@@ -220,7 +220,7 @@ changed_by_law :
 unfolding computing_laws
 changed_by_law = (refl, refl, refl, refl)
 
--- The mode is changed by an accepted LOC or REM, in both modes; all_reply by an accepted ALL_REP EN or DS, and pause by an accepted PAUSE
+-- The mode is changed by an accepted LOC or REM, in both modes; all-reply by an accepted ALL_REP EN or DS, and pause by an accepted PAUSE
 -- ON or OFF, in remote mode only.
 head_changes :
     (map (changes_head 0 local_table) (says "REM" ∷ says "LOC" ∷ says "LOCX" ∷ says "ASSTP" ∷ []) ≡ true ∷ true ∷ false ∷ false ∷ [])
@@ -256,7 +256,7 @@ last_from_release :
 unfolding computing_laws account_after
 last_from_release = (refl, refl, refl)
 
--- Orders of each kind, and a line that is none: what is a read, what is of the head, what changes the mode, all_reply or pause, what names
+-- Orders of each kind, and a line that is none: what is a read, what is of the head, what changes the mode, all-reply or pause, what names
 -- channel 0, and what it is to channel 0.
 abbrev kinds : List (List ℕ)
 kinds =

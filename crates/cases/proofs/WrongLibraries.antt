@@ -438,7 +438,7 @@ reaches_neighbour_refused n =
     let fact : ◌≡◌ {A = ℕ} 7 0 = ap (λ (r : List ℕ). get_or r 0 0) left in
     absurd (omega (arith, fact))
 
--- A library that answers as if all_reply were on: REM is OK, and nothing may be written.
+-- A library that answers as if all-reply were on: REM is OK, and nothing may be written.
 abbrev pub talks : Library
 talks =
     with_command

@@ -43,7 +43,7 @@ unasked t (AskHead q) e = absurd (false≢true (sym e))
 unasked t (ForHead o) e = refl
 
 module _ (t line reply : List ℕ) (s : sound_table t ≡ true) (enough : 32 ≤ length reply) where
-  -- what a line that is no read leaves: its number and its text, as all_reply is after it
+  -- what a line that is no read leaves: its number and its text, as all-reply is after it
   Told : CommandAfter → Parsed → Type 0
   Told a p =
       let text = echo (head_of a.table).reply (verdict t p) in

@@ -166,7 +166,7 @@ told_on u later x s o h w = run_keeps (λ t. Tells (motor_at t x) s) (changes ur
         rw ((next t k o).follows x w.channel).motor
         (performed_tells (paused_in t) (motor_at t x) (deed x t k) (count_at (after urqolina t k).buffer x) s (sound_motor_at t x o w.channel) count w.made e told)
 
--- the fields of the head, numbered as their orders are: 0 the mode, 1 all_reply, 2 the error flags, 3 pause; and the card, which none is of
+-- the fields of the head, numbered as their orders are: 0 the mode, 1 all-reply, 2 the error flags, 3 pause; and the card, which none is of
 abbrev field : ℕ → Head → ℕ
 field i h = cond (eqb 0 i) h.mode (cond (eqb 1 i) h.reply (cond (eqb 2 i) h.errors (cond (eqb 3 i) h.pause h.card)))
 

@@ -102,7 +102,7 @@ module _ (l : Library) (t line reply : List ℕ) (sound : sound_table t ≡ true
         after l t (command line reply) ≡ record { result = 256 * length text; table = t; buffer = put reply 0 text }
     pub head_reads : (q : HeadQuestion) → order_in t line ≡ Is (AskHead q) → let text = head_text (head_of t) q in
         after l t (command line reply) ≡ record { result = 256 * length text; table = t; buffer = put reply 0 text }
-    -- "Other commands, and numbers 1 to 4, write their text if all_reply is on after the command, else nothing. Bytes past the reply
+    -- "Other commands, and numbers 1 to 4, write their text if all-reply is on after the command, else nothing. Bytes past the reply
     -- stay as they were." 4 "reads as the split numbers" (02 §5).
     pub others : is_some asks (order_in t line) ≡ false
         → let a = after l t (command line reply) in let text = echo (head_of a.table).reply (verdict t (order_in t line)) in

@@ -81,7 +81,7 @@ changed_by s n rests = false
 unfoldable pub changes : Library → ℕ → Setting → List ℕ → Call → Bool
 changes l x s t k = changed_by s (count_at (after l t k).buffer x) (deed x t k)
 
--- the field of the head that an order writes, numbered: 0 the mode, 1 all_reply, 2 the error flags, 3 pause
+-- the field of the head that an order writes, numbered: 0 the mode, 1 all-reply, 2 the error flags, 3 pause
 unfoldable pub head_topic : HeadOrder → ℕ
 head_topic (Mode k) = 0
 head_topic (AllReply k) = 1

@@ -1,5 +1,5 @@
 -- What every order of a line is, whatever the line: it names one of the sixteen channels, and its directions, speed numbers,
--- end flags and head bytes are those that document 01 gives. That every order is so is proved (`Line-made` in
+-- end flags and head bytes are those that document 01 gives. That every order is so is proved (`line_made` in
 -- proofs/OrderLaws.antt); a function that takes an order may ask for it.
 use Rattle.std.specs.Prelude.{ℕ, Bool, true, ◌&&◌, ◌||◌, eqb, leb}
 use Rattle.digits.specs.Places.{cw, ccw}

@@ -28,7 +28,7 @@ less n = record { minus = true; digits = n }
 four : ℕ → ℕ → ℕ → ℕ → Four
 four a b c d = record { a = a; b = b; c = c; d = d }
 
--- Starts, SPC, settings, all_reply and pause need remote mode; stops, reads, LOC, REM and the ERR family do not.
+-- Starts, SPC, settings, all-reply and pause need remote mode; stops, reads, LOC, REM and the ERR family do not.
 modes :
     map needs_remote (Go 0 (Scan cw) ∷ ChangeSpeed 0 1 ∷ Set 0 (Select 2) ∷ ForHead (AllReply 1) ∷ ForHead (Pause 1) ∷ ForHead (Pause 0)
     ∷ Stop 0 0x40 ∷ StopAll 0x80 ∷ Ask 0 AskPosition ∷ ForHead (Mode 0) ∷ ForHead (Mode 1) ∷ AskHead AskError ∷ AskHead AskPause ∷ AskHead AskBusy ∷ ForHead ClearErrors ∷ ForHead (ClearError 3) ∷ [])

@@ -19,7 +19,7 @@ use Rattle.line.specs.declared.HeadQuestion.TheVariants.{AskAllReply, AskFlags, 
 use Rattle.replies.specs.Replies.{text_of, echo, head_text, question_text}
 use Rattle.replies.specs.Computing.{computing_replies}
 
--- Every verdict has its text where all_reply is on: 5 and 6 have none. Numbers that no verdict has yet have NG.
+-- Every verdict has its text where all-reply is on: 5 and 6 have none. Numbers that no verdict has yet have NG.
 texts :
     (map (echo 1) (Done ∷ NoForm ∷ Busy ∷ OutOfRange ∷ [])
     ≡ bytes "OK" ∷ bytes "COMMAND ERROR" ∷ bytes "MCC06 BUSY ERROR" ∷ bytes "PARAMETER ERROR" ∷ [])
@@ -33,7 +33,7 @@ silent : map (echo 0) (Done ∷ NoForm ∷ Busy ∷ OutOfRange ∷ LocalMode ∷
 unfolding computing_replies
 silent = refl
 
--- a head with all_reply and error flags
+-- a head with all-reply and error flags
 abbrev heading : ℕ → ℕ → Head
 heading all flags = record { mode = 1; reply = all; errors = flags; pause = 0; busy = 0; card = 0 }
 

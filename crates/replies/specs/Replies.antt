@@ -65,7 +65,7 @@ error_text e =
     (bytes "NO ERROR"))))
 
 -- "Other commands, and numbers 1 to 4, write their text if all-reply is on after the command, else nothing", where 4 "reads as the split
--- numbers" (02 §5): every number but 5 and 6. `all` is the head's all_reply after the command
+-- numbers" (02 §5): every number but 5 and 6. `all` is the head's all-reply after the command
 unfoldable pub echo : ℕ → Verdict → List ℕ
 echo all v = cond (eqb all 1) (text_of (number_of v)) []
 

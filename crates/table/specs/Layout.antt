@@ -53,7 +53,7 @@ with_head t h = put t 0 (head_bytes h)
 abbrev pub with_mode : Head → ℕ → Head
 with_mode h n = record { mode = n; reply = h.reply; errors = h.errors; pause = h.pause; busy = h.busy; card = h.card }
 
--- the head with another all_reply
+-- the head with another all-reply
 abbrev pub with_reply : Head → ℕ → Head
 with_reply h n = record { mode = h.mode; reply = n; errors = h.errors; pause = h.pause; busy = h.busy; card = h.card }
 
