@@ -33,8 +33,8 @@ fn make_start(t: &mut [u8], x: u8, s: Start)
 
 // Stops a channel that the busy set has, and takes it out; the record of another one is not looked at.
 fn stop_listed(t: &mut [u8], set: u16, x: u8, flags: u8)
-    requires t_len { (length t.old ≡ table_size) × (x ≤ 15) × (sound_record (record_at t.old x) ≡ true) × (sealed t.old ≡ t.old) }
-    requires set_value { is_set x set ≡ busy (motor_at t.old x) }
+    requires whole { (length t.old ≡ table_size) × (x ≤ 15) × (sound_record (record_at t.old x) ≡ true) × (sealed t.old ≡ t.old) }
+    requires listed { is_set x set ≡ busy (motor_at t.old x) }
     ensures { t.new ≡ with_motor t.old x (stopped flags (motor_at t.old x)) }
 {
     if has(set, x) {

@@ -18,7 +18,7 @@ fn added(net: u32, place: u32) -> u32
 
 // The nets with the counts of one more tick.
 pub fn add_counts(nets: &mut [u32], pulses: &[u8])
-    requires nets_len { (length nets.old ≡ 16) × (length pulses.now ≡ 64) }
+    requires sizes { (length nets.old ≡ 16) × (length pulses.now ≡ 64) }
     requires nets_within { NetsWithin most_net nets.old × CountsWithin most_count pulses.now }
     ensures { nets.new ≡ nets_after nets.old pulses.now }
 {

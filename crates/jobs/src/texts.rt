@@ -44,14 +44,14 @@ fn write_reply(out: &mut [u8], reply: &[u8], n: usize) -> usize
 }
 
 // The number of a command and its reply; the command's result says both the number and how long the reply is.
-pub fn write_command(out: &mut [u8], res: u32, reply: &[u8]) -> usize
-    requires { (length out.old ≡ out_size) × (length reply.now ≡ 32) × (res / 256 ≤ 32) }
-    ensures { Wrote out.old out.new (command_text res reply.now) result }
+pub fn write_command(out: &mut [u8], outcome: u32, reply: &[u8]) -> usize
+    requires { (length out.old ≡ out_size) × (length reply.now ≡ 32) × (outcome / 256 ≤ 32) }
+    ensures { Wrote out.old out.new (command_text outcome reply.now) result }
 {
-    let n = write_decimal(out, 1, res % 256);
+    let n = write_decimal(out, 1, outcome % 256);
     out[n] = b' ';
     let at = n + 1;
-    write_reply(&mut out[at..], reply, (res / 256) as usize) + at
+    write_reply(&mut out[at..], reply, (outcome / 256) as usize) + at
 }
 
 // A channel's net, which is not written where it is 0.
@@ -69,11 +69,11 @@ fn write_net(out: &mut [u8], c: u8, net: u32) -> usize
 }
 
 // The number of the last tick, and the nets in the channels' order.
-pub fn write_waited(out: &mut [u8], res: u32, nets: &[u32]) -> usize
+pub fn write_waited(out: &mut [u8], outcome: u32, nets: &[u32]) -> usize
     requires { (length out.old ≡ out_size) × (length nets.now ≡ 16) }
-    ensures { Wrote out.old out.new (waited_text res nets.now) result }
+    ensures { Wrote out.old out.new (waited_text outcome nets.now) result }
 {
-    let mut n = write_decimal(out, 1, res);
+    let mut n = write_decimal(out, 1, outcome);
     let mut c: usize = 0;
     while c < 16 {
         n += write_net(&mut out[n..], c as u8, nets[c]);

@@ -69,7 +69,7 @@ pub fn take_run(
 ) -> Run
     requires { (length line.old ≡ held_size) × (held ≤ held_size) × (out_size ≤ length out.old) }
     ensures prints { Prints first table.old (take held line.old) bytes.now (take result.count out.new) result.first table.new (take result.held line.new) (drop result.read bytes.now) }
-    ensures held_le_held_size { (result.held ≤ held_size) × (result.count ≤ length out.old) × (result.read ≤ length bytes.now) × (0 < length bytes.now → 0 < result.read) }
+    ensures bounds { (result.held ≤ held_size) × (result.count ≤ length out.old) × (result.read ≤ length bytes.now) × (0 < length bytes.now → 0 < result.read) }
 {
     let mut opening = first;
     let mut kept = held;

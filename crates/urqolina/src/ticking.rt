@@ -20,8 +20,8 @@ use table::{is_moving_at, mark_at, motor_at, put_progress};
 
 // Writes what a tick has made of a motor that was busy; where its drive has ended, the channel leaves the busy set.
 fn put_ticked(t: &mut [u8], c: u8, m: Motor)
-    requires t_len { (length t.old ≡ table_size) × (c ≤ 15) × (sealed t.old ≡ t.old) × (busy (motor_at t.old c) ≡ true) }
-    requires m_value { (progressed (record_at t.old c) m ≡ record_of m) × (sound_motor m ≡ true) }
+    requires whole { (length t.old ≡ table_size) × (c ≤ 15) × (sealed t.old ≡ t.old) × (busy (motor_at t.old c) ≡ true) }
+    requires motor_ticked { (progressed (record_at t.old c) m ≡ record_of m) × (sound_motor m ≡ true) }
     ensures { t.new ≡ with_motor t.old c m }
 {
     put_progress(t, c, m);
@@ -32,8 +32,8 @@ fn put_ticked(t: &mut [u8], c: u8, m: Motor)
 
 // Ticks a moving motor, whose record a channel has: what changes is written into the table, and the count into the pulse buffer.
 fn drive_channel(t: &mut [u8], pulses: &mut [u8], c: u8, m: Motor)
-    requires t_len { (length t.old ≡ table_size) × (length pulses.old ≡ 64) × (c ≤ 15) × (sealed t.old ≡ t.old) }
-    requires c_value { (record_at t.old c ≡ record_of m) × (moving m ≡ true) × (sound_motor m ≡ true) }
+    requires whole { (length t.old ≡ table_size) × (length pulses.old ≡ 64) × (c ≤ 15) × (sealed t.old ≡ t.old) }
+    requires ready { (record_at t.old c ≡ record_of m) × (moving m ≡ true) × (sound_motor m ≡ true) }
     ensures t_after { t.new ≡ with_motor t.old c (tick_motor m).motor }
     ensures pulses_after { pulses.new ≡ put pulses.old (4 * c) (word_bytes 4 (tick_count m)) }
 {
@@ -49,8 +49,8 @@ fn drive_channel(t: &mut [u8], pulses: &mut [u8], c: u8, m: Motor)
 
 // Ticks a channel whose count is 0 so far. A motor that is held gets no pulse, and its record is left unwritten: a tick leaves it as it is.
 fn tick_channel(t: &mut [u8], pulses: &mut [u8], c: u8)
-    requires t_len { (length t.old ≡ table_size) × (length pulses.old ≡ 64) × (c ≤ 15) × (sealed t.old ≡ t.old) }
-    requires c_value { (sound_record (record_at t.old c) ≡ true) × (part pulses.old (4 * c) 4 ≡ word_bytes 4 0) }
+    requires whole { (length t.old ≡ table_size) × (length pulses.old ≡ 64) × (c ≤ 15) × (sealed t.old ≡ t.old) }
+    requires ready { (sound_record (record_at t.old c) ≡ true) × (part pulses.old (4 * c) 4 ≡ word_bytes 4 0) }
     ensures t_after { t.new ≡ with_motor t.old c (tick_motor (motor_at t.old c)).motor }
     ensures pulses_after { pulses.new ≡ put pulses.old (4 * c) (word_bytes 4 (tick_count (motor_at t.old c))) }
 {
@@ -62,8 +62,8 @@ fn tick_channel(t: &mut [u8], pulses: &mut [u8], c: u8)
 
 // Ticks a channel that the busy set has; the record of another one is not looked at.
 fn tick_listed(t: &mut [u8], pulses: &mut [u8], listed: bool, c: u8)
-    requires t_len { (length t.old ≡ table_size) × (length pulses.old ≡ 64) × (c ≤ 15) × (sealed t.old ≡ t.old) }
-    requires c_value { (sound_record (record_at t.old c) ≡ true) × (part pulses.old (4 * c) 4 ≡ word_bytes 4 0) × (listed ≡ busy (motor_at t.old c)) }
+    requires whole { (length t.old ≡ table_size) × (length pulses.old ≡ 64) × (c ≤ 15) × (sealed t.old ≡ t.old) }
+    requires ready { (sound_record (record_at t.old c) ≡ true) × (part pulses.old (4 * c) 4 ≡ word_bytes 4 0) × (listed ≡ busy (motor_at t.old c)) }
     ensures t_after { t.new ≡ with_motor t.old c (tick_motor (motor_at t.old c)).motor }
     ensures pulses_after { pulses.new ≡ put pulses.old (4 * c) (word_bytes 4 (tick_count (motor_at t.old c))) }
 {

@@ -12,6 +12,6 @@ stop_listed-requires c =
     let x = c.args.x in
     let channel = c.requires.1 in
     record {
-      t_len = (sound_length t s, channel, sound_record_at t x s channel, sound_sealed t s (λ j. (c.slice_known-1.given j).fits));
-      set_value = rw c.read_head-h.ensures (sound_set_at t x s channel);
+      whole = (sound_length t s, channel, sound_record_at t x s channel, sound_sealed t s (λ j. (c.slice_known-1.given j).fits));
+      listed = rw c.read_head-h.ensures (sound_set_at t x s channel);
     }

@@ -28,8 +28,8 @@ stop_listed-requires c =
     let sound : sound_record (record_at c.loop-x.t x) ≡ true = rw (c.loop-x.invariant.2, up_to_record f x t₀ whole (omega arith)) (sound_record_at t₀ x c.requires channel) in
     let seal : sealed c.loop-x.t ≡ c.loop-x.t = rw c.loop-x.invariant.2 (up_to_sealed f x t₀ whole (omega arith)) in
     record {
-      t_len = (c.loop-x.invariant.1, channel, sound, seal);
-      set_value = rw (c.read_head-h.ensures, c.loop-x.invariant.2, up_to_motor f x t₀ whole (omega arith)) (sound_set_at t₀ x c.requires channel);
+      whole = (c.loop-x.invariant.1, channel, sound, seal);
+      listed = rw (c.read_head-h.ensures, c.loop-x.invariant.2, up_to_motor f x t₀ whole (omega arith)) (sound_set_at t₀ x c.requires channel);
     }
 
 pub loop-x-preserved : goal.loop-x-preserved

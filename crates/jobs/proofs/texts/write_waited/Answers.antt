@@ -14,7 +14,7 @@ use Rattle.jobs.proofs.OutLaws.{text_more, nets_more, nets_none, net_within, wit
 use Rattle.jobs.proofs.texts.write_waited.Goals as goal
 
 pub write_decimal-n-requires : goal.write_decimal-n-requires
-write_decimal-n-requires c = omega (arith, decimal_within 1 c.args.res (omega arith))
+write_decimal-n-requires c = omega (arith, decimal_within 1 c.args.outcome (omega arith))
 
 pub loop-c-init : goal.loop-c-init
 loop-c-init c =
@@ -22,13 +22,13 @@ loop-c-init c =
     (omega arith, refl, omega arith, rw (nets_none nets) (omega arith), rw (nets_none nets) (sym (put_none _ _)))
 
 pub slice_bounds-write_net-count : goal.slice_bounds-write_net-count
-slice_bounds-write_net-count c = omega (arith, c.write_decimal-n.ensures.count, decimal_within 1 c.args.res (omega arith), c.write_decimal-n.auto.out)
+slice_bounds-write_net-count c = omega (arith, c.write_decimal-n.ensures.count, decimal_within 1 c.args.outcome (omega arith), c.write_decimal-n.auto.out)
 
 pub slice_bounds-write_net-start : goal.slice_bounds-write_net-start
-slice_bounds-write_net-start c = omega (arith, c.write_decimal-n.ensures.count, decimal_within 1 c.args.res (omega arith), c.write_decimal-n.auto.out)
+slice_bounds-write_net-start c = omega (arith, c.write_decimal-n.ensures.count, decimal_within 1 c.args.outcome (omega arith), c.write_decimal-n.auto.out)
 
 pub write_net-n-requires : goal.write_net-n-requires
-write_net-n-requires c = simp (length-take, length-drop) (omega (arith, c.write_decimal-n.ensures.count, decimal_within 1 c.args.res (omega arith), c.write_decimal-n.auto.out))
+write_net-n-requires c = simp (length-take, length-drop) (omega (arith, c.write_decimal-n.ensures.count, decimal_within 1 c.args.outcome (omega arith), c.write_decimal-n.auto.out))
 
 pub overflow_add-n : goal.overflow_add-n
 overflow_add-n c =
@@ -38,7 +38,7 @@ overflow_add-n c =
     let net = net_text c.loop-c.c (get_or nets c.loop-c.c origin) in
     let written : Wrote (take (length out - n) (drop n out)) c.write_net-n.new.out net c.write_net-n.result =
     rw (within_any nets c.loop-c.c origin 0 (omega arith)) c.write_net-n.ensures in
-    omega (arith, c.write_decimal-n.ensures.count, decimal_within 1 c.args.res (omega arith), c.write_decimal-n.auto.out, written.count, net_within c.loop-c.c (get_or c.args.nets.now c.loop-c.c origin))
+    omega (arith, c.write_decimal-n.ensures.count, decimal_within 1 c.args.outcome (omega arith), c.write_decimal-n.auto.out, written.count, net_within c.loop-c.c (get_or c.args.nets.now c.loop-c.c origin))
 
 pub loop-c-preserved : goal.loop-c-preserved
 loop-c-preserved c =
@@ -47,7 +47,7 @@ loop-c-preserved c =
     let out = c.loop-c.out in
     let n = c.loop-c.n in
     let few_bytes : length net ≤ 14 = net_within c.loop-c.c (get_or nets c.loop-c.c origin) in
-    let few : c.write_decimal-n.result ≤ 10 = omega (arith, c.write_decimal-n.ensures.count, decimal_within 1 c.args.res (omega arith)) in
+    let few : c.write_decimal-n.result ≤ 10 = omega (arith, c.write_decimal-n.ensures.count, decimal_within 1 c.args.outcome (omega arith)) in
     let long : length c.write_decimal-n.new.out ≡ length c.args.out.now = c.write_decimal-n.auto.out in
     let written : Wrote (take (length out - n) (drop n out)) c.write_net-n.new.out net c.write_net-n.result =
     rw (within_any nets c.loop-c.c origin 0 (omega arith)) c.write_net-n.ensures in
@@ -68,7 +68,7 @@ unfolding waited_text
 returns c =
     let a = c.args in
     let e : c.loop-c.c ≡ 16 = omega arith in
-    let number = plain_text a.res in
+    let number = plain_text a.outcome in
     let texts = net_texts a.nets.now 16 in
     let long : c.loop-c.n ≡ c.write_decimal-n.result + length texts = rw e at c.loop-c.invariant.3 in
     let all : c.loop-c.out ≡ put c.write_decimal-n.new.out c.write_decimal-n.result texts = rw e at c.loop-c.invariant.4 in
@@ -76,5 +76,5 @@ returns c =
       count = rw length-append (omega (arith, c.write_decimal-n.ensures.count));
       buffer =
           rw (all, c.write_decimal-n.ensures.buffer)
-          (text_more a.out.now number texts c.write_decimal-n.result c.write_decimal-n.ensures.count (omega (arith, c.write_decimal-n.ensures.count, decimal_within 1 c.args.res (omega arith), c.write_decimal-n.auto.out)));
+          (text_more a.out.now number texts c.write_decimal-n.result c.write_decimal-n.ensures.count (omega (arith, c.write_decimal-n.ensures.count, decimal_within 1 c.args.outcome (omega arith), c.write_decimal-n.auto.out)));
     }

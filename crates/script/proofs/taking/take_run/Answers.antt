@@ -55,7 +55,7 @@ loop-read-preserved c =
     )
 
 pub returns-else-count-out : goal.returns-else-count-out
-returns-else-count-out c = record { prints = c.loop-read.invariant.7; held_le_held_size = (omega arith, omega arith, omega arith, λ h. omega (arith, leb-false)) }
+returns-else-count-out c = record { prints = c.loop-read.invariant.7; bounds = (omega arith, omega arith, omega arith, λ h. omega (arith, leb-false)) }
 
 pub returns-after-loop-read : goal.returns-after-loop-read
-returns-after-loop-read c = record { prints = c.loop-read.invariant.7; held_le_held_size = (omega arith, omega arith, omega arith, λ h. omega arith) }
+returns-after-loop-read c = record { prints = c.loop-read.invariant.7; bounds = (omega arith, omega arith, omega arith, λ h. omega arith) }

@@ -15,11 +15,11 @@ unfolding motor_at
 put_ticked-requires c =
     let t = c.args.t.now in
     let m = c.args.m in
-    let held : motor_at t c.args.c ≡ m = rw c.requires.c_value.0 (sound_written_read m c.requires.c_value.2) in
-    let on : busy (motor_at t c.args.c) ≡ true = rw held (moving_busy m c.requires.c_value.1) in
+    let held : motor_at t c.args.c ≡ m = rw c.requires.ready.0 (sound_written_read m c.requires.ready.2) in
+    let on : busy (motor_at t c.args.c) ≡ true = rw held (moving_busy m c.requires.ready.1) in
     record {
-      t_len = (c.requires.t_len.0, c.requires.t_len.2, c.requires.t_len.3, on);
-      m_value = (rw (c.tick-after.ensures, c.requires.c_value.0) (tick_written m c.requires.c_value.1), rw c.tick-after.ensures (tick_sound m c.requires.c_value.2));
+      whole = (c.requires.whole.0, c.requires.whole.2, c.requires.whole.3, on);
+      motor_ticked = (rw (c.tick-after.ensures, c.requires.ready.0) (tick_written m c.requires.ready.1), rw c.tick-after.ensures (tick_sound m c.requires.ready.2));
     }
 
 pub returns : goal.returns

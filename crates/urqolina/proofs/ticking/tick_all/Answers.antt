@@ -45,8 +45,8 @@ tick_listed-requires c =
     let h : k ≤ 15 = channel c.args.t.now c.loop-left.c c.loop-left.left c.requires.0 c.loop-left.invariant.0 c.loop-left.invariant.5 c.loop-left-test.true in
     let sound : sound_record (record_at c.loop-left.t k) ≡ true = rw (c.loop-left.invariant.3, up_to_record ticked k t₀ whole (omega arith)) (sound_record_at t₀ k s h) in
     record {
-      t_len = (c.loop-left.invariant.1, c.loop-left.invariant.2, h, rw c.loop-left.invariant.3 (up_to_sealed ticked k t₀ whole (omega arith)));
-      c_value = (sound, rw c.loop-left.invariant.4 (zero_count t₀ k h), rw (c.loop-left.invariant.5, c.loop-left.invariant.3, up_to_motor ticked k t₀ whole (omega arith)) (sound_set_at t₀ k s h));
+      whole = (c.loop-left.invariant.1, c.loop-left.invariant.2, h, rw c.loop-left.invariant.3 (up_to_sealed ticked k t₀ whole (omega arith)));
+      ready = (sound, rw c.loop-left.invariant.4 (zero_count t₀ k h), rw (c.loop-left.invariant.5, c.loop-left.invariant.3, up_to_motor ticked k t₀ whole (omega arith)) (sound_set_at t₀ k s h));
     }
 
 pub loop-left-smaller : goal.loop-left-smaller

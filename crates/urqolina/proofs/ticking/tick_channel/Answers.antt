@@ -12,10 +12,10 @@ pub drive_channel-requires : goal.drive_channel-requires
 drive_channel-requires c =
     let t = c.args.t.now in
     let same = c.motor_at-m.ensures in
-    let held = read_back t c.args.c c.requires.c_value.0 (λ j. (c.slice_known-1.given j).fits) in
+    let held = read_back t c.args.c c.requires.ready.0 (λ j. (c.slice_known-1.given j).fits) in
     record {
-      t_len = c.requires.t_len;
-      c_value = (rw same (sym held), rw same (sym c.is_moving_at.ensures ∙ c.if-is_moving_at.true), rw same (motor_sound_in t c.args.c c.requires.c_value.0));
+      whole = c.requires.whole;
+      ready = (rw same (sym held), rw same (sym c.is_moving_at.ensures ∙ c.if-is_moving_at.true), rw same (motor_sound_in t c.args.c c.requires.ready.0));
     }
 
 pub returns-then-is_moving_at : goal.returns-then-is_moving_at
@@ -31,6 +31,6 @@ returns-else-is_moving_at c =
     let x = c.args.c in
     let still : moving (motor_at t x) ≡ false = sym c.is_moving_at.ensures ∙ c.if-is_moving_at.false in
     record {
-      t_after = sym (idle_table t x c.requires.t_len.0 c.requires.t_len.2 c.requires.t_len.3 c.requires.c_value.0 (λ j. (c.slice_known-1.given j).fits) still);
-      pulses_after = sym (idle_count c.args.pulses.now x (motor_at t x) c.requires.t_len.1 c.requires.t_len.2 c.requires.c_value.1 still);
+      t_after = sym (idle_table t x c.requires.whole.0 c.requires.whole.2 c.requires.whole.3 c.requires.ready.0 (λ j. (c.slice_known-1.given j).fits) still);
+      pulses_after = sym (idle_count c.args.pulses.now x (motor_at t x) c.requires.whole.1 c.requires.whole.2 c.requires.ready.1 still);
     }

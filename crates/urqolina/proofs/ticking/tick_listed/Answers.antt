@@ -11,8 +11,8 @@ pub returns-else-listed : goal.returns-else-listed
 returns-else-listed c =
     let t = c.args.t.now in
     let x = c.args.c in
-    let still : moving (motor_at t x) ≡ false = idle_still (motor_at t x) (sym c.requires.c_value.2 ∙ c.if-listed.false) in
+    let still : moving (motor_at t x) ≡ false = idle_still (motor_at t x) (sym c.requires.ready.2 ∙ c.if-listed.false) in
     record {
-      t_after = sym (idle_table t x c.requires.t_len.0 c.requires.t_len.2 c.requires.t_len.3 c.requires.c_value.0 (λ j. (c.type_inv.t j).fits) still);
-      pulses_after = sym (idle_count c.args.pulses.now x (motor_at t x) c.requires.t_len.1 c.requires.t_len.2 c.requires.c_value.1 still);
+      t_after = sym (idle_table t x c.requires.whole.0 c.requires.whole.2 c.requires.whole.3 c.requires.ready.0 (λ j. (c.type_inv.t j).fits) still);
+      pulses_after = sym (idle_count c.args.pulses.now x (motor_at t x) c.requires.whole.1 c.requires.whole.2 c.requires.ready.1 still);
     }
