@@ -65,6 +65,17 @@ many_fewer f (suc k) (suc c) l e = go (f 0) (many_fewer (λ i. f (suc i)) k c (o
     go true h = omega arith
     go false h = omega arith
 
+-- Where there is none, no channel is in the set.
+pub many_none : (f : ℕ → Bool) (k : ℕ) → how_many f k ≡ 0 → (c : ℕ) → c < k → f c ≡ false
+unfolding how_many
+many_none f zero e c l = absurd (omega arith)
+many_none f (suc k) e zero l = go (f 0) refl
+  where
+    go : (b : Bool) → f 0 ≡ b → f 0 ≡ false
+    go true q = absurd (omega (arith, rw q at e))
+    go false q = q
+many_none f (suc k) e (suc c) l = many_none (λ i. f (suc i)) k (omega arith) c (omega arith)
+
 -- The same channels are as many, and channels that are all among others are no more.
 pub many_same : (f g : ℕ → Bool) (k : ℕ) → ((c : ℕ) → c < k → g c ≡ f c) → how_many g k ≡ how_many f k
 unfolding how_many

@@ -1,3 +1,4 @@
 pub mod TextLaws
 pub mod BackLaws
 pub mod Cases
+pub mod SameLaws
