@@ -1,25 +1,26 @@
 -- The head by value: what is there after it is written, what a write of it leaves, and what leaves it. Only `same_head`,
 -- `head_back` and the parts of its range know its fields, and what keeps a table sound knows pause. Assumes nothing.
-use mathlib.Core.Path.{◌≡◌, ◌∙◌}
-use mathlib.Core.List.{List}
+use mathlib.Core.Path.{◌≡◌, sym, ap, ◌∙◌}
+use mathlib.Core.List.{List, [], ◌∷◌, ◌++◌}
 use mathlib.Core.Bool.{true}
 use mathlib.Core.Logic.{inl, inr}
-use Prim.Native.Nat.{ℕ, ◌≤◌}
+use Prim.Native.Nat.{ℕ, ◌≤◌, ◌<◌}
 use native.Mathlib.Omega.{arith}
-use lib.ListN.{length}
+use lib.ListN.{length, get_or}
 use lib.Dec.{leb}
 use borrow.Author.Tests.{leb-true, le-leb}
-use Rattle.digits.specs.Bytes.{part, put, all_zero}
-use Rattle.digits.specs.Words.{bits_set}
+use Rattle.digits.specs.Bytes.{AllBytes, part, put, all_zero}
+use Rattle.digits.specs.Words.{word, bits_set}
+use Rattle.digits.proofs.PartLaws.{part_length, part_add, part_one, part_bytes}
 use Rattle.digits.proofs.WordLaws.{byte_word}
 use Rattle.digits.proofs.PutLaws.{put_length}
 use Rattle.motor.specs.Sound.{held_right}
 use Rattle.motor.proofs.SoundLaws.{and_l, and_r}
 use Rattle.table.specs.declared.head.Head.{Head}
-use Rattle.table.specs.Layout.{table_size, head_of, head_bytes, paused, most_busy, head_used, head_rest, with_head, with_busy, record_start, record_at, motor_at, busy_set}
+use Rattle.table.specs.Layout.{table_size, head_of, set_bytes, head_bytes, paused, most_busy, head_used, head_rest, with_head, with_busy, record_start, record_at, motor_at, busy_set}
 use Rattle.table.specs.Sound.{head_in_range, sound_head, sound_table}
-use Rattle.table.proofs.PieceLaws.{part_after}
-use Rattle.table.proofs.SealLaws.{Beside, same_set, set_word}
+use Rattle.table.proofs.PieceLaws.{put_back, part_after}
+use Rattle.table.proofs.SealLaws.{Beside, same_set, set_word, word_set}
 use Rattle.table.proofs.TableLaws.{sound_length, sound_record_at, sound_held_at, sound_head_of, sound_set, sound_from}
 
 -- The range of a head by its parts, for whoever changes one of them: `search` puts the others back.
@@ -90,6 +91,27 @@ module _ (t : List ℕ) (h : Head) (whole : length t ≡ table_size) where
 
   pub head_set : busy_set (with_head t h) ≡ busy_set t
   head_set = same_set t (with_head t h) (λ c l. rw (head_motor c))
+
+-- The head that a table holds, written back, leaves the table.
+pub head_same : (t : List ℕ) → length t ≡ table_size → AllBytes t → with_head t (head_of t) ≡ t
+unfolding with_head head_of
+head_same t e bytes = rw (← fields) (put_back t 0 head_used (omega arith))
+  where
+    one : (at : ℕ) → at < table_size → part t at 1 ≡ word (part t at 1) ∷ []
+    one at l = rw (part_one t at (omega arith), byte_word (get_or t at 0))
+
+    set : part t 4 2 ≡ set_bytes (word (part t 4 2))
+    set = sym (word_set (part t 4 2) (part_length t 4 2 (omega arith)) (part_bytes t 4 2 bytes))
+
+    fields : part t 0 head_used ≡ head_bytes (head_of t)
+    fields =
+        part_add t 0 1 6 ∙ ap (λ (s : List ℕ). s ++ part t 1 6) (one 0 (omega arith))
+        ∙ rw (part_add t 1 1 5, part_add t 2 1 4, part_add t 3 1 3, part_add t 4 2 1)
+        (rest (one 1 (omega arith)) (one 2 (omega arith)) (one 3 (omega arith)) set (one 6 (omega arith)))
+      where
+        rest : {a b c d e : List ℕ} {v w x y z : List ℕ} → a ≡ v → b ≡ w → c ≡ x → d ≡ y → e ≡ z
+            → word (part t 0 1) ∷ (a ++ (b ++ (c ++ (d ++ e)))) ≡ word (part t 0 1) ∷ (v ++ (w ++ (x ++ (y ++ z))))
+        rest p q r s u = cc
 
 -- A head in range that is written into a sound table leaves it sound, where what is held is held under its pause, and its busy set is
 -- the table's.

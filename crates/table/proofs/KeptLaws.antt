@@ -23,7 +23,7 @@ use Rattle.table.specs.Sound.{sound_table}
 use Rattle.table.specs.Computing.{computing_table}
 use Rattle.table.proofs.PieceLaws.{put_back}
 use Rattle.table.proofs.SealLaws.{Beside, placed_length, placed_record, placed_head, placed_other, set_many, sealed_length, sealed_after, sealed_beside, sealed_motor, sealed_head, sealed_true, sealed_again, kept_sealed}
-use Rattle.table.proofs.TableLaws.{motor_length, up_to, up_to_none, up_to_next, up_to_all, sound_length, sound_record_at, sound_motor_at, sound_held_at, sound_set, sound_from}
+use Rattle.table.proofs.TableLaws.{motor_length, up_to, up_to_none, up_to_next, up_to_all, sound_length, sound_record_at, sound_motor_at, sound_held_at, sound_set, sound_sealed, sound_from}
 use Rattle.table.proofs.HeadLaws.{same_head, same_sound, sound_few}
 
 -- A record that is written is read back, and leaves the other records and, but for the busy set, the head.
@@ -167,6 +167,17 @@ module _ (f : Motor → Motor) (keeps : (m : Motor) → sound_motor m ≡ true �
 
   pub motors_sound : (t : List ℕ) → sound_table t ≡ true → sound_table (with_motors t f) ≡ true
   motors_sound t s = rw (← up_to_all f t (sound_length t s)) (up_to_sound t s 16 (omega arith))
+
+-- Sixteen motors that are written as they were leave a sound table.
+pub motors_back : (f : Motor → Motor) (t : List ℕ) → sound_table t ≡ true → AllBytes t → ((c : ℕ) → c ≤ 15 → f (motor_at t c) ≡ motor_at t c)
+    → with_motors t f ≡ t
+motors_back f t s bytes same = rw (← up_to_all f t (sound_length t s)) (go 16 (omega arith))
+  where
+    go : (k : ℕ) → k ≤ 16 → up_to f k t ≡ t
+    go zero h = up_to_none f t ∙ sound_sealed t s bytes
+    go (suc k) h =
+        rw (← add-one k, ← up_to_next f k t (sound_length t s) (omega arith), go k (omega arith), same k (omega arith))
+        (motor_back t k (sound_record_at t k s (omega arith)) bytes (sound_length t s) (omega arith) (sound_sealed t s bytes))
 
 -- A fresh table is sound, of either card.
 pub fresh_sound : (card : ℕ) → card ≤ 1 → sound_table (fresh_table card) ≡ true

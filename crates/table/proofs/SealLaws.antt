@@ -72,7 +72,7 @@ pub set_word : (n : ℕ) → word (set_bytes n) ≡ n
 unfolding word
 set_word n = omega arith
 
-word_set : (s : List ℕ) → length s ≡ 2 → AllBytes s → set_bytes (word s) ≡ s
+pub word_set : (s : List ℕ) → length s ≡ 2 → AllBytes s → set_bytes (word s) ≡ s
 unfolding word_bytes
 word_set s e bytes =
     let below : word s < 65536 = word_below 2 s e bytes in
