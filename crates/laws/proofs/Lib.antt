@@ -17,5 +17,6 @@ pub mod SettledLaws
 pub mod ContactLaws
 pub mod ChangeLaws
 pub mod SharedLaws
+pub mod UnchangedLaws
 pub mod DemandLaws
 pub mod OneLibrary

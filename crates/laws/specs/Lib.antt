@@ -3,6 +3,7 @@ pub mod Deeds
 pub mod Ledger
 pub mod Numbers
 pub mod Neighbours
+pub mod Unchanged
 pub mod ReadBack
 pub mod Pulses
 pub mod Contacts
