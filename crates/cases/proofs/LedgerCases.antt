@@ -1,6 +1,7 @@
 -- What the demands are stated with, computed on cases of our library: deeds, accounts, ways, read-back and last ticks. Each value
 -- was worked out from document 01 first, as the comment above it says, and is one computation. Assumes nothing.
-use Prim.Native.Nat.{ℕ, ◌+◌, ◌-◌}
+use Prim.Native.Nat.{ℕ, ◌+◌, ◌-◌, ◌≤◌}
+use native.Mathlib.Omega.{arith}
 use mathlib.Core.Path.{◌≡◌, refl, ◌∙◌}
 use mathlib.Core.List.{List, [], ◌∷◌, ◌++◌, map}
 use mathlib.Core.Bool.{Bool, true, false}
@@ -20,7 +21,7 @@ use Rattle.laws.specs.Ledger.{count_at, cw_pulses, ccw_pulses, Account, no_drive
 use Rattle.laws.specs.Numbers.{asks}
 use Rattle.laws.specs.Neighbours.{of_head}
 use Rattle.laws.specs.ReadBack.{text_for, topic, changed_by, changes, writes_field, is_some, changes_head}
-use Rattle.laws.specs.Pulses.{account_now, travel_now, settings_now, disturbs, distance, last_tick}
+use Rattle.laws.specs.Pulses.{account_now, travel_now, settings_now, disturbs, distance, last_tick, Undisturbed}
 use Rattle.laws.specs.Contacts.{untold, told_now}
 use Rattle.cases.proofs.Beginnings.{lent, says, ticked, ready, running, ended, over, aimed_at, under_pause, waiting}
 use Rattle.cases.proofs.Unjudged.{unjudged, same_account_now}
@@ -255,6 +256,18 @@ last_from_release :
     × (account_after awaiting ≡ aimed_at (origin + 3) (waiting cw 1000))
 unfolding computing_laws account_after
 last_from_release = (refl, refl, refl)
+
+-- What `LastTick` asks for is had, either way: 3 pulses CCW from their start on, and 3 CW from where they are held, with ticks, a read and
+-- PAUSE OFF after it. 3 lies within room, which goes to the end of the range.
+undisturbed :
+    Undisturbed urqolina lent 0 aimed (origin - 3) (ticked ∷ says "PS?0" ∷ ticked ∷ [])
+    × Undisturbed urqolina lent 0 awaiting (origin + 3) (ticked ∷ says "PAUSE OFF" ∷ ticked ∷ [])
+unfolding computing_laws
+undisturbed =
+    let near : 3 ≤ 2147483647 = omega arith in (
+      record { lasts = refl; unticked = refl; aimed = refl; within = near; alone = refl },
+      record { lasts = refl; unticked = refl; aimed = refl; within = near; alone = refl },
+    )
 
 -- Orders of each kind, and a line that is none: what is a read, what is of the head, what changes the mode, all-reply or pause, what names
 -- channel 0, and what it is to channel 0.

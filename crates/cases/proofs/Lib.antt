@@ -5,3 +5,4 @@ pub mod Cases
 pub mod Beginnings
 pub mod LedgerCases
 pub mod WrongLibraries
+pub mod WrongChanges
