@@ -4,12 +4,16 @@ use Prim.Native.Nat.{ℕ, ◌+◌, ◌<◌, ◌≤◌}
 use mathlib.Core.Path.{◌≡◌, refl}
 use mathlib.Core.List.{List, [], ◌∷◌, ◌++◌, append_assoc}
 use mathlib.Core.Bool.{Bool, true, false, cond}
+use native.Mathlib.Nat.{zero-add}
 use native.Mathlib.Numerals.{add-one}
 use native.Mathlib.Omega.{arith}
 use lib.Dec.{eqb}
 use lib.ListN.{length, take, drop, get_or, length-append}
 use lib.Seq.{drop-cons, take_at, length-take-le}
 use Rattle.digits.specs.Bytes.{put}
+use Rattle.digits.proofs.PutLaws.{put_after}
+use Rattle.jobs.specs.Holding.{held_size}
+use Rattle.jobs.proofs.HoldLaws.{kept_few}
 use Rattle.running.specs.Running.{line_done}
 use Rattle.running.proofs.RunLaws.{line_within}
 use Rattle.script.specs.Stream.{Stepped, Prints, byte_read, end_read, streamed}
@@ -26,6 +30,15 @@ unfolding streamed
 prints_more first t held bytes written first₁ t₁ held₁ i h f rest =
     rw (add-one i, append_assoc) (rw (drop-cons bytes i 0 h) at (f rest))
 
+-- What a byte leaves held is never more than is held of a line.
+either_held : (u : Bool) (a b : Stepped) → length a.held ≤ held_size → length b.held ≤ held_size → length (cond u a b).held ≤ held_size
+either_held true a b h l = h
+either_held false a b h l = l
+
+pub held_few : (first : Bool) (t held : List ℕ) (b : ℕ) → length held ≤ held_size → length (byte_read first t held b).held ≤ held_size
+unfolding byte_read
+held_few first t held b h = either_held (eqb b (code "\n")) _ _ (omega arith) (kept_few held b h)
+
 -- A byte's text takes no more than 235 bytes.
 either_within : (u : Bool) (a b : Stepped) → length a.text ≤ 235 → length b.text ≤ 235 → length (cond u a b).text ≤ 235
 either_within true a b h l = h
@@ -34,6 +47,10 @@ either_within false a b h l = l
 pub byte_within : (first : Bool) (t held : List ℕ) (b : ℕ) → length (byte_read first t held b).text ≤ 235
 unfolding byte_read
 byte_within first t held b = either_within (eqb b (code "\n")) _ _ (line_within first t held) (omega arith)
+
+-- What is put after what stands at the front of a buffer stands there with it.
+pub put_onward : (o₀ o w x : List ℕ) (k : ℕ) → o ≡ put o₀ 0 w → length w ≡ k → k + length x ≤ length o₀ → put o k x ≡ put o₀ 0 (w ++ x)
+put_onward o₀ o w x k e m h = rw (e, ← m, ← put_after o₀ w x 0 (omega arith), zero-add)
 
 -- what is written by now, with the text that is put after it
 pub front_more : (t b : List ℕ) (n : ℕ) → n + length b ≤ length t → take (n + length b) (put t n b) ≡ take n t ++ b
