@@ -49,6 +49,21 @@ every_form :
 unfolding computing_line line plus minus
 every_form = (refl, refl, refl, refl, refl, refl, refl)
 
+-- every form that names a channel once more, with a letter for it, which can be nothing but the channel
+lettered :
+    (map line ("ABSB+5" ∷ "RELC-0000000013" ∷ "SCANPD" ∷ "SCANNF" ∷ "JOGPE" ∷ "JOGNA" ∷ [])
+    ≡ Is (Go 11 (Abs (plus 5))) ∷ Is (Go 12 (Rel (minus 13))) ∷ Is (Go 13 (Scan cw)) ∷ Is (Go 15 (Scan ccw)) ∷ Is (Go 14 (Jog cw)) ∷ Is (Go 10 (Jog ccw)) ∷ [])
+    × (map line ("SSTPB" ∷ "ESTPC" ∷ "SPCD400" ∷ [])
+    ≡ Is (Stop 11 0x40) ∷ Is (Stop 12 0x80) ∷ Is (ChangeSpeed 13 400) ∷ [])
+    × (map line ("PSA-2147483648" ∷ "FLB+3" ∷ "BLC-30" ∷ "SPDHD" ∷ "SPDME" ∷ "SPDLF" ∷ [])
+    ≡ Is (Set 10 (Preset (minus 2147483648))) ∷ Is (Set 11 (SetCwLimit (plus 3))) ∷ Is (Set 12 (SetCcwLimit (minus 30))) ∷ Is (Set 13 (Select 2)) ∷ Is (Set 14 (Select 1)) ∷ Is (Set 15 (Select 0)) ∷ [])
+    × (map line ("SPDHA5000000" ∷ "SPDMB800" ∷ "SPDLC1" ∷ "SETLSD11110020" ∷ "SETMTE1912" ∷ [])
+    ≡ Is (Set 10 (SetSpeed 2 5000000)) ∷ Is (Set 11 (SetSpeed 1 800)) ∷ Is (Set 12 (SetSpeed 0 1)) ∷ Is (Set 13 (SetSwitches (record { a = 1; b = 1; c = 1; d = 1 }) (record { a = 0; b = 0; c = 2; d = 0 }))) ∷ Is (Set 14 (SetMotor (record { a = 1; b = 9; c = 1; d = 2 }))) ∷ [])
+    × (map line ("PS?A" ∷ "FL?A" ∷ "BL?A" ∷ "SPD?A" ∷ "SPDH?A" ∷ "SPDM?A" ∷ "SPDL?A" ∷ "SETLS?A" ∷ "SETMT?A" ∷ "STSA?" ∷ [])
+    ≡ map (λ q. Is (Ask 10 q)) (AskPosition ∷ AskCwLimit ∷ AskCcwLimit ∷ AskSelected ∷ AskSpeed 2 ∷ AskSpeed 1 ∷ AskSpeed 0 ∷ AskSwitches ∷ AskMotor ∷ AskStatus ∷ []))
+unfolding computing_line line plus minus
+lettered = (refl, refl, refl, refl, refl)
+
 -- 02 §1: "let a bare d mean plus", wherever ±d stands. x is one byte, read first, and leading zeros count among the ten digits.
 bare :
     (map line ("ABS0100" ∷ "ABS01" ∷ "ABSA5" ∷ "ABS00" ∷ "ABS00000000013" ∷ "ABS09999999999" ∷ [])
