@@ -9,7 +9,7 @@ use Rattle.digits.specs.Words.{word}
 use Rattle.digits.specs.Places.{origin}
 use Rattle.text.specs.Text.{bytes, decimal, signed_decimal, hex_byte, hex_word, hex_value, is_hex, value_of, digits_at_front, Wrote}
 use Rattle.text.specs.Text.{number_at_front, sign_byte, distance}
-use Rattle.text.specs.declared.decimal.Number.TheVariants.{Nothing, Read}
+use Rattle.std.specs.Prelude.{Some, None}
 use Rattle.text.specs.Computing.{computing_text}
 
 -- document 01's own replies: "a sign (+ for 0) and at least 7 digits; speeds, at least 6"
@@ -52,8 +52,8 @@ reads = (refl, refl, refl, refl, refl, refl)
 
 -- "d: 1 to 10 digits": none are no number and eleven are none, ten are one, and what follows the digits is left
 numbers :
-    (number_at_front (bytes "-5") ≡ Nothing) × (number_at_front (bytes "") ≡ Nothing) × (number_at_front (bytes "00000000012") ≡ Nothing)
-    × (number_at_front (bytes "9999999999") ≡ Read 9999999999 10) × (number_at_front (bytes "007?") ≡ Read 7 3)
+    (number_at_front (bytes "-5") ≡ None) × (number_at_front (bytes "") ≡ None) × (number_at_front (bytes "00000000012") ≡ None)
+    × (number_at_front (bytes "9999999999") ≡ Some (record { value = 9999999999; count = 10 })) × (number_at_front (bytes "007?") ≡ Some (record { value = 7; count = 3 }))
 unfolding computing_text
 numbers = (refl, refl, refl, refl, refl)
 

@@ -1,7 +1,7 @@
 -- Numbers in digits: what reading and writing them a byte at a time comes to, how long they are, and that a number that is
 -- written is read back. Assumes nothing.
 use Prim.Native.Char.{code}
-use mathlib.Core.Path.{◌≡◌, refl, ap, ◌∙◌}
+use mathlib.Core.Path.{◌≡◌, refl}
 use mathlib.Core.List.{List, [], ◌∷◌, ◌++◌}
 use mathlib.Core.Bool.{Bool, true, false, ◌&&◌, cond}
 use Prim.Native.Nat.{ℕ, zero, suc, ◌+◌, ◌*◌, ◌-◌, ◌/◌, ◌%◌, ◌^◌, ◌<◌, ◌≤◌, max}
@@ -9,29 +9,23 @@ use native.Mathlib.Nat.{pow-zero, pow-suc, pow-succ', div-one, div-div-eq-div-mu
 use native.Mathlib.Nat.{add-zero, add-suc, zero-add, suc-add, pow-le-pow_right, le-max_right, mul_assoc, mul-le-mul_right, lt_of_lt_of_le}
 use native.Mathlib.Numerals.{add-one, one-add}
 use native.Mathlib.Omega.{arith}
-use lib.Dec.{leb, ltb}
-use lib.ListN.{length, take, drop, get_or, set, length-append, length-drop, drop_of_length-le}
-use lib.Seq.{drop-cons, get_or-drop, take-suc, take_at}
-use borrow.Author.Tests.{leb-true, leb-false, le-leb, lt-leb, lt-ltb}
+use lib.Dec.{leb}
+use lib.ListN.{length, take, get_or, set, length-append}
+use lib.Seq.{take-suc, take_at}
+use borrow.Author.Tests.{leb-true, leb-false, le-leb, lt-leb}
 use Rattle.digits.specs.Bytes.{put}
-use Rattle.text.specs.declared.decimal.Number.TheVariants.{Nothing, Read}
+use Rattle.std.specs.Prelude.{Some, None}
+use Rattle.std.specs.List.{prefix_len}
+use Rattle.text.specs.declared.decimal.Digits.{Digits}
 use Rattle.text.specs.Text.{is_digit, digit_value, digit_byte, digits_at_front, value_from, value_of, number_at_front}
 use Rattle.text.specs.Text.{last_digits, powers_up_to, digit_count, decimal, distance, signed_decimal}
 use Rattle.digits.proofs.PutLaws.{put_more}
 
--- Reading, a byte at a time: a digit counts one more; any other byte, and the end, ends the count.
-pub digits_more : (s : List ℕ) (i : ℕ) → i < length s → is_digit (get_or s i 0) ≡ true
-    → digits_at_front (drop i s) ≡ 1 + digits_at_front (drop (i + 1) s)
+-- The digits at the front are as many as pass the test from there on.
+pub digits_passing : (s : List ℕ) → prefix_len is_digit s ≡ digits_at_front s
 unfolding digits_at_front
-digits_more s i h d = rw (add-one i, drop-cons s i 0 h, d) (omega arith)
-
-pub digits_none : (s : List ℕ) (i : ℕ) → i < length s → is_digit (get_or s i 0) ≡ false → digits_at_front (drop i s) ≡ 0
-unfolding digits_at_front
-digits_none s i h d = rw (drop-cons s i 0 h, d)
-
-pub digits_past : (s : List ℕ) (i : ℕ) → length s ≤ i → digits_at_front (drop i s) ≡ 0
-unfolding digits_at_front
-digits_past s i h = rw (drop_of_length-le s h)
+digits_passing [] = refl
+digits_passing (b ∷ s) = rw (digits_passing s, one-add)
 
 -- The digits at the front of a text are within it.
 pub digits_within : (s : List ℕ) → digits_at_front s ≤ length s
@@ -58,28 +52,8 @@ unfolding value_from
 value_append [] v b = refl
 value_append (a ∷ t) v b = value_append t (10 * v + digit_value a) b
 
-value_take : (t : List ℕ) (n : ℕ) → n < length t → value_of (take (suc n) t) ≡ 10 * value_of (take n t) + digit_value (get_or t n 0)
+pub value_take : (t : List ℕ) (n : ℕ) → n < length t → value_of (take (suc n) t) ≡ 10 * value_of (take n t) + digit_value (get_or t n 0)
 value_take t n h = rw (take-suc t n 0 h) (value_append (take n t) 0 (get_or t n 0))
-
--- what the digits from a place up to another are worth, and that they are no more than they are
-abbrev pub Worth : List ℕ → ℕ → ℕ → ℕ → Type 0
-Worth s at i v = (v < 10 ^ (i - at)) × (v ≡ value_of (take (i - at) (drop at s)))
-
--- A digit joins the number, as long as there are ten at most.
-pub worth_more : (s : List ℕ) (at i v : ℕ) → at ≤ i → i < length s → is_digit (get_or s i 0) ≡ true → i + 1 - at ≤ 10 → Worth s at i v
-    → Worth s at (i + 1) (cond (ltb v 10000000000) (10 * v + digit_value (get_or s i 0)) v)
-worth_more s at i v a l d h w =
-    let n = i - at in
-    let e : i + 1 - at ≡ suc n = omega arith in
-    let p : at + n ≡ i = omega arith in
-    let few : v < 10000000000 = omega (arith, w.0, pow-le-pow_right {n = 10} (omega arith) {i = n} {j = 9} (omega arith)) in
-    let b = between (code "0") (code "9") (get_or s i 0) d in
-    let q : get_or (drop at s) n 0 ≡ get_or s i 0 = get_or-drop at s n 0 ∙ ap (λ (k : ℕ). get_or s k 0) p in
-    let t : n < length (drop at s) = omega (arith, length-drop at s) in
-    rw (e, lt-ltb v 10000000000 few) (
-      rw (pow-suc 10 n) (omega (arith, w.0, b.0, b.1)),
-      rw (value_take (drop at s) n t, q, ← w.1),
-    )
 
 -- What digits write is below the power of ten that has one more digit.
 value_below : (s : List ℕ) (v : ℕ) → value_from v (take (digits_at_front s) s) < (v + 1) * 10 ^ digits_at_front s
@@ -103,21 +77,21 @@ pub record Found (s : List ℕ) (value count : ℕ) : Type 0 where
   pub inside : count ≤ length s
   pub below : value < 10 ^ 10
 
-pub number_found : (s : List ℕ) (v n : ℕ) → number_at_front s ≡ Read v n → Found s v n
+pub number_found : (s : List ℕ) (d : Digits) → number_at_front s ≡ Some d → Found s d.value d.count
 unfolding number_at_front
-number_found s v n e = go (leb 1 (digits_at_front s) && leb (digits_at_front s) 10) refl e
+number_found s d e = go (leb 1 (digits_at_front s) && leb (digits_at_front s) 10) refl e
   where
     go : (t : Bool) → (leb 1 (digits_at_front s) && leb (digits_at_front s) 10) ≡ t
-        → cond t (Read (value_of (take (digits_at_front s) s)) (digits_at_front s)) Nothing ≡ Read v n → Found s v n
+        → cond t (Some (record { value = value_of (take (digits_at_front s) s); count = digits_at_front s })) None ≡ Some d → Found s d.value d.count
     go true p e =
-        let d = between 1 10 (digits_at_front s) p in
-        let c : n ≡ digits_at_front s = cc in
-        let w : v ≡ value_of (take (digits_at_front s) s) = cc in
+        let b = between 1 10 (digits_at_front s) p in
+        let c : d.count ≡ digits_at_front s = cc in
+        let w : d.value ≡ value_of (take (digits_at_front s) s) = cc in
         record {
-          some = omega (arith, d.0);
-          few = omega (arith, d.1);
+          some = omega (arith, b.0);
+          few = omega (arith, b.1);
           inside = omega (arith, digits_within s);
-          below = omega (arith, value_below s 0, pow-le-pow_right {n = 10} (omega arith) d.1);
+          below = omega (arith, value_below s 0, pow-le-pow_right {n = 10} (omega arith) b.1);
         }
     go false p e = let z : ◌≡◌ {A = ℕ} 0 1 = cc in absurd (omega arith)
 
@@ -252,7 +226,7 @@ decimal_digits k n t e =
     rw (digits_written w n t, e, add-zero, length_last_digits w n)
 
 pub number_back : (k n : ℕ) (t : List ℕ) → k ≤ 10 → n < 10 ^ 10 → digits_at_front t ≡ 0
-    → number_at_front (decimal k n ++ t) ≡ Read n (length (decimal k n))
+    → number_at_front (decimal k n ++ t) ≡ Some (record { value = n; count = length (decimal k n) })
 unfolding number_at_front
 number_back k n t h l e =
     let s = decimal k n in

@@ -1,11 +1,10 @@
 -- Texts and numbers in digits, read and written.
-use Rattle.std.specs.Prelude.{ℕ, zero, suc, ◌+◌, ◌*◌, ◌-◌, ◌/◌, ◌%◌, ◌^◌, max, ◌≡◌, List, [], ◌∷◌, ◌++◌, Bool, true, false, ◌&&◌, ◌||◌, cond, leb, ltb, eqb, length, take}
+use Rattle.std.specs.Prelude.{ℕ, zero, suc, ◌+◌, ◌*◌, ◌-◌, ◌/◌, ◌%◌, ◌^◌, max, ◌≡◌, List, [], ◌∷◌, ◌++◌, Bool, true, false, ◌&&◌, ◌||◌, cond, leb, ltb, eqb, length, take, Option, Some, None}
 use Prim.Native.String as S
 use Prim.Native.Char.{code}
 use Rattle.digits.specs.Places.{origin}
 use Rattle.digits.specs.Bytes.{put}
-use Rattle.text.specs.declared.decimal.Number.{Number}
-use Rattle.text.specs.declared.decimal.Number.TheVariants.{Nothing, Read}
+use Rattle.text.specs.declared.decimal.Digits.{Digits}
 
 -- the bytes of a quoted text
 unfoldable pub bytes : S.String → List ℕ
@@ -96,10 +95,10 @@ unfoldable pub hex_word : ℕ → List ℕ
 hex_word n = hex_byte (n / 256) ++ hex_byte (n % 256)
 
 -- "d: 1 to 10 digits", as many as stand there: the number at the front of a text, with how many digits it has
-unfoldable pub number_at_front : List ℕ → Number
+unfoldable pub number_at_front : List ℕ → Option Digits
 number_at_front s =
     let n = digits_at_front s in
-    cond (leb 1 n && leb n 10) (Read (value_of (take n s)) n) Nothing
+    cond (leb 1 n && leb n 10) (Some (record { value = value_of (take n s); count = n })) None
 
 -- what a writer leaves: the text at the front of the buffer, every other byte as it was, and the length of the text as its answer
 pub record Wrote (before after text : List ℕ) (r : ℕ) : Type 0 where

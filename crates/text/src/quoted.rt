@@ -8,10 +8,7 @@ pub fn write_text(out: &mut [u8], text: &[u8]) -> usize
     requires { length text.now ≤ length out.old }
     ensures { Wrote out.old out.new text.now result }
 {
-    let mut i: usize = 0;
-    while i < text.len() {
-        out[i] = text[i];
-        i += 1;
-    }
-    i
+    let n = text.len();
+    out[..n].copy_from_slice(text);
+    n
 }

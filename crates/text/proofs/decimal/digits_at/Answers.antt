@@ -1,21 +1,11 @@
--- `text::decimal::digits_at` meets its contract. The invariant: the digits passed, and those that stand from
--- there on, are all. Assumes nothing.
-use native.Mathlib.Omega.{arith}
-use mathlib.Core.Path.{sym, ◌∙◌}
-use Rattle.text.proofs.TextLaws.{digits_more, digits_none, digits_past}
+-- `text::decimal::digits_at` meets its contract: past the end nothing is left. Assumes nothing.
+use Rattle.std.proofs.Common.{arith, ◌<◌, length, rules}
+use lib.ListN.{drop_of_length-le}
+use Rattle.text.specs.Text.{digits_at_front}
 use Rattle.text.proofs.decimal.digits_at.Goals as goal
 
-pub loop-i-preserved : goal.loop-i-preserved
-loop-i-preserved c =
-    let s = c.args.s.now in
-    let i = c.loop-i.i in
-    omega (arith, digits_more s i (omega arith) (sym c.is_digit.ensures ∙ c.if-is_digit.true))
-
-pub returns-else-is_digit : goal.returns-else-is_digit
-returns-else-is_digit c =
-    let s = c.args.s.now in
-    let i = c.loop-i.i in
-    omega (arith, digits_none s i (omega arith) (sym c.is_digit.ensures ∙ c.if-is_digit.false))
-
-pub returns : goal.returns
-returns c = omega (arith, digits_past c.args.s.now c.loop-i.i c.loop-i-test.false)
+pub returns-in-None : goal.returns-in-None
+unfolding digits_at_front
+returns-in-None c =
+    let past : length c.args.s.now < c.args.at = search rules in
+    rw (drop_of_length-le c.args.s.now {i = c.args.at} (omega (arith, past)))

@@ -13,12 +13,12 @@ width : (r d least n : ℕ) → r ≡ max least d → d ≡ digit_count n → r 
 width r d least n e f = e ∙ rw f (sym (length_decimal least n))
 
 pub write_digits-requires : goal.write_digits-requires
-write_digits-requires c = rw (width _ _ c.args.least c.args.n c.larger-k.ensures c.digit_count.ensures) c.requires
+write_digits-requires c = rw (width _ _ c.args.least c.args.n c.max-k.ensures c.digit_count.ensures) c.requires
 
 pub returns : goal.returns
 unfolding decimal
 returns c =
     record {
-      count = width _ _ c.args.least c.args.n c.larger-k.ensures c.digit_count.ensures;
-      buffer = rw (c.write_digits.ensures, c.larger-k.ensures, c.digit_count.ensures);
+      count = width _ _ c.args.least c.args.n c.max-k.ensures c.digit_count.ensures;
+      buffer = rw (c.write_digits.ensures, c.max-k.ensures, c.digit_count.ensures);
     }

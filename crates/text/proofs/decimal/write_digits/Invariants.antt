@@ -1,14 +1,9 @@
 -- `text::decimal::write_digits` meets its contract. The invariant: the digits from place i on are put, and what is
 -- left of n is to be written before them. Assumes nothing.
-use mathlib.Core.Path.{◌≡◌}
-use Prim.Native.Nat.{◌-◌, ◌/◌, ◌^◌, ◌≤◌}
-use lib.ListN.{length}
+use Rattle.std.proofs.Common.{◌≡◌, ◌-◌, ◌/◌, ◌^◌, length}
 use Rattle.digits.specs.Bytes.{put}
 use Rattle.text.specs.Text.{last_digits}
 use Rattle.text.proofs.decimal.write_digits.Given as goal
 
 abbrev pub invariant-loop-i : goal.invariant-loop-i
-invariant-loop-i l = (l.i ≤ l.k) × (length l.out ≡ length l.initial.out) × (l.left ≡ l.n / 10 ^ (l.k - l.i)) × (l.out ≡ put l.initial.out l.i (last_digits (l.k - l.i) l.n))
-
-abbrev pub decreases-loop-i : goal.decreases-loop-i
-decreases-loop-i l = l.i
+invariant-loop-i l = (length l.out ≡ length l.initial.out) × (l.left ≡ l.n / 10 ^ (l.k - l.i)) × (l.out ≡ put l.initial.out l.i (last_digits (l.k - l.i) l.n))
