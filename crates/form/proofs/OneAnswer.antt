@@ -1,5 +1,6 @@
 -- A tail is told by its fields, and a row by its word and its fields: so what `tail_of` and the numbers of rows promise is one answer each.
 -- Assumes nothing.
+use Rattle.std.specs.Prelude.{Option, Some, None}
 use mathlib.Core.Path.{◌≡◌, refl, sym, ap, ◌∙◌}
 use mathlib.Core.List.{List, [], ◌∷◌}
 use mathlib.Core.Bool.{Bool, true, false, ◌&&◌, cond, and-eq-true_iff}
@@ -7,16 +8,16 @@ use Prim.Native.Nat.{ℕ, zero, suc, ◌+◌, ◌*◌, ◌≤◌}
 use native.Mathlib.Omega.{arith}
 use lib.ListN.{take, drop}
 use lib.Dec.{eqb}
-use borrow.Author.Tests.{eqb-true, eqb-false}
+use borrow.Author.Tests.{eqb-true, eqb-false, ltb-true}
 use Rattle.line.specs.declared.Field.{Field}
 use Rattle.line.specs.declared.Field.TheVariants.{Channel, Signed, Unsigned, Digit, Question, FourDigits, ZeroThree, Enable, Disable, On, Off, End, Never}
 use Rattle.line.specs.declared.AfterX.{AfterX}
 use Rattle.line.specs.declared.AfterX.TheVariants.{OnlyX, XSigned, XNumber, XSwitches, XDigits, XQuestion}
 use Rattle.line.specs.declared.Tail.{Tail}
-use Rattle.line.specs.declared.Tail.TheVariants.{Alone, AtX, OneDigit, Enabling, Disabling, TurnOn, TurnOff, NoLine}
+use Rattle.line.specs.declared.Tail.TheVariants.{Alone, AtX, OneDigit, Enabling, Disabling, TurnOn, TurnOff}
 use Rattle.line.specs.Tails.{after_x, fields_of}
 use Rattle.line.specs.Forms.{Row, forms}
-use Rattle.form.specs.Table.{packed, row_count, Numbers}
+use Rattle.form.specs.Table.{packed, row_count, rows_from, is_row, Numbers}
 use Rattle.form.specs.Computing.{computing_form}
 
 -- each field has a number of its own, and so have some fields in a row
@@ -44,21 +45,21 @@ after_numbered : ℕ → AfterX
 after_numbered n =
     cond (eqb n 0) OnlyX (cond (eqb n 2) XSigned (cond (eqb n 3) XNumber (cond (eqb n 118) XSwitches (cond (eqb n 6) XDigits XQuestion))))
 
-tail_numbered : List Field → Tail
-tail_numbered [] = Alone
-tail_numbered (Channel ∷ fs) = AtX (after_numbered (field_numbers fs))
-tail_numbered (Signed ∷ fs) = NoLine
-tail_numbered (Unsigned ∷ fs) = NoLine
-tail_numbered (Digit ∷ fs) = OneDigit
-tail_numbered (Question ∷ fs) = NoLine
-tail_numbered (FourDigits ∷ fs) = NoLine
-tail_numbered (ZeroThree ∷ fs) = NoLine
-tail_numbered (Enable ∷ fs) = Enabling
-tail_numbered (Disable ∷ fs) = Disabling
-tail_numbered (On ∷ fs) = TurnOn
-tail_numbered (Off ∷ fs) = TurnOff
-tail_numbered (End ∷ fs) = NoLine
-tail_numbered (Never ∷ fs) = NoLine
+tail_numbered : List Field → Option Tail
+tail_numbered [] = Some Alone
+tail_numbered (Channel ∷ fs) = Some (AtX (after_numbered (field_numbers fs)))
+tail_numbered (Signed ∷ fs) = None
+tail_numbered (Unsigned ∷ fs) = None
+tail_numbered (Digit ∷ fs) = Some OneDigit
+tail_numbered (Question ∷ fs) = None
+tail_numbered (FourDigits ∷ fs) = None
+tail_numbered (ZeroThree ∷ fs) = None
+tail_numbered (Enable ∷ fs) = Some Enabling
+tail_numbered (Disable ∷ fs) = Some Disabling
+tail_numbered (On ∷ fs) = Some TurnOn
+tail_numbered (Off ∷ fs) = Some TurnOff
+tail_numbered (End ∷ fs) = None
+tail_numbered (Never ∷ fs) = None
 
 after_back : (a : AfterX) → after_numbered (field_numbers (after_x a)) ≡ a
 unfolding after_numbered field_numbers field_number
@@ -69,19 +70,19 @@ after_back XSwitches = refl
 after_back XDigits = refl
 after_back XQuestion = refl
 
-tail_back : (t : Tail) → tail_numbered (fields_of t) ≡ t
+tail_back : (t : Option Tail) → tail_numbered (fields_of t) ≡ t
 unfolding tail_numbered
-tail_back Alone = refl
-tail_back (AtX a) = rw (after_back a)
-tail_back OneDigit = refl
-tail_back Enabling = refl
-tail_back Disabling = refl
-tail_back TurnOn = refl
-tail_back TurnOff = refl
-tail_back NoLine = refl
+tail_back (Some Alone) = refl
+tail_back (Some (AtX a)) = rw (after_back a)
+tail_back (Some OneDigit) = refl
+tail_back (Some Enabling) = refl
+tail_back (Some Disabling) = refl
+tail_back (Some TurnOn) = refl
+tail_back (Some TurnOff) = refl
+tail_back None = refl
 
 -- Two tails with the same fields are one.
-pub one_tail : (s t : Tail) → fields_of s ≡ fields_of t → s ≡ t
+pub one_tail : (s t : Option Tail) → fields_of s ≡ fields_of t → s ≡ t
 one_tail s t e = sym (tail_back s) ∙ ap tail_numbered e ∙ tail_back t
 
 -- a row's word and fields as one number, and the place of the first row that has it
@@ -118,7 +119,24 @@ back_at (suc k) n h e =
     go true q here below = rw (eqb-true n (suc k) q) here
     go false q here below = below (omega (arith, eqb-false n (suc k) q))
 
+-- the place that is the number of a row; of none, as many rows as there are
+number_of : Option ℕ → ℕ
+number_of (Some n) = n
+number_of None = row_count
+
+number_back : (o : Option ℕ) → is_row o ≡ true → first_place (take 1 (rows_from o)) ≡ number_of o
+unfolding first_place number_of
+number_back (Some n) h = back_at row_count n (omega (arith, ltb-true n row_count h)) all_back
+number_back None h = refl
+
 -- A row has one number.
-pub one_number : (m n : ℕ) (rs : List Row) → Numbers m rs → Numbers n rs → m ≡ n
+pub one_number : (m n : Option ℕ) (rs : List Row) → Numbers m rs → Numbers n rs → m ≡ n
+unfolding number_of
 one_number m n rs a b =
-    sym (back_at row_count m a.most all_back) ∙ ap first_place (a.row ∙ sym b.row) ∙ back_at row_count n b.most all_back
+    apart m n a.most b.most (sym (number_back m a.most) ∙ ap first_place (a.row ∙ sym b.row) ∙ number_back n b.most)
+  where
+    apart : (m n : Option ℕ) → is_row m ≡ true → is_row n ≡ true → number_of m ≡ number_of n → m ≡ n
+    apart (Some m) (Some n) p q e = ap (λ k. Some k) e
+    apart (Some m) None p q e = absurd (omega (arith, ltb-true m row_count p, e))
+    apart None (Some n) p q e = absurd (omega (arith, ltb-true n row_count q, e))
+    apart None None p q e = refl

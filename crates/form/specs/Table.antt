@@ -1,13 +1,12 @@
 -- How the code holds the table of forms: by the words, each as one number, and by the rows, each by its place among them. A row
 -- is found by its word's number, and a word has one form or two, as `SPDHx` and `SPDHxd`.
-use Rattle.std.specs.Prelude.{◌≡◌, ℕ, ◌≤◌, List, [], ◌∷◌, reverse, Bool, true, false, ◌||◌, cond, length, take, drop, eqb}
+use Rattle.std.specs.Prelude.{◌≡◌, ℕ, List, [], ◌∷◌, reverse, Bool, true, false, ◌||◌, cond, length, take, drop, eqb, ltb, Option, Some, None}
 use Rattle.text.specs.Text.{same}
 use Rattle.digits.specs.Words.{word}
 use Rattle.line.specs.declared.Fields.{Fields}
 use Rattle.line.specs.declared.Field.{Field}
 use Rattle.line.specs.declared.Field.TheVariants.{Never}
-use Rattle.line.specs.declared.Parsed.{Parsed}
-use Rattle.line.specs.declared.Parsed.TheVariants.{Is}
+use Rattle.line.specs.declared.Order.{Order}
 use Rattle.line.specs.Forms.{Row, forms, those}
 
 -- the letters of a word as one number, the last one lowest
@@ -39,15 +38,25 @@ fields_by [] = Never ∷ []
 fields_by (r ∷ rs) = r.fields
 
 -- the order of the first of some rows, or else another
-abbrev pub order_by : List Row → Fields → Parsed → Parsed
+abbrev pub order_by : List Row → Fields → Option Order → Option Order
 order_by [] f other = other
-order_by (r ∷ rs) f other = Is (r.order f)
+order_by (r ∷ rs) f other = Some (r.order f)
 
 -- as many rows as there are
 unfoldable pub row_count : ℕ
 row_count = length forms
 
--- n is the number of the first of some rows, counted from 0 in the order of the forms; of none it is as many as there are
-pub record Numbers (n : ℕ) (rs : List Row) : Type 0 where
-  pub row : take 1 (drop n forms) ≡ take 1 rs
-  pub most : n ≤ row_count
+-- the rows from a number on; none where there is no number
+abbrev pub rows_from : Option ℕ → List Row
+rows_from (Some n) = drop n forms
+rows_from None = []
+
+-- a number is one of a row
+abbrev pub is_row : Option ℕ → Bool
+is_row (Some n) = ltb n row_count
+is_row None = true
+
+-- o is the number of the first of some rows, counted from 0 in the order of the forms; of none there is no number
+pub record Numbers (o : Option ℕ) (rs : List Row) : Type 0 where
+  pub row : take 1 (rows_from o) ≡ take 1 rs
+  pub most : is_row o ≡ true

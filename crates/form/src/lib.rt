@@ -10,7 +10,7 @@ pub mod rows;
 pub mod tails;
 pub mod words;
 
-// A word that was found in a line, and the place after it; no letters where no word stands.
+// A word that was found in a line, and the place after it.
 #[derive(Clone, Copy)]
 pub struct Word {
     pub letters: u64,

@@ -4,7 +4,7 @@ ghost use Rattle.std.specs.Prelude.{true, false, ◌++◌};
 ghost use Rattle.line.specs.Forms.{question_rows, head_rows, request_rows};
 ghost use Rattle.form.specs.Table.{rows_with, rows_by, Numbers};
 
-use crate::requests::{NO_ROW, PAUSE, PAUSE_OFF_ROW, request_row};
+use crate::requests::{PAUSE, PAUSE_OFF_ROW, request_row};
 use crate::words::*;
 
 // Starts.
@@ -95,70 +95,73 @@ pub const ERRC_ROW: u8 = 39;
 pub const ERRCE_ROW: u8 = 40;
 
 // Of what is asked, of the head and of the requests.
-fn later_row(word: u64) -> u8
+#[tactic(auto, using(crate::proofs::TableLaws::none_before), unfolding(crate::specs::Computing::computing_form))]
+fn later_row(word: u64) -> Option<u8>
     ensures { Numbers result (rows_with word (question_rows ++ (head_rows ++ request_rows))) }
 {
     match word {
-        ASK_PS => ASK_PS_ROW,
-        ASK_FL => ASK_FL_ROW,
-        ASK_BL => ASK_BL_ROW,
-        ASK_SPD => ASK_SPD_ROW,
-        ASK_SPDH => ASK_SPDH_ROW,
-        ASK_SPDM => ASK_SPDM_ROW,
-        ASK_SPDL => ASK_SPDL_ROW,
-        ASK_SETLS => ASK_SETLS_ROW,
-        ASK_SETMT => ASK_SETMT_ROW,
-        ASK_STS => ASK_STS_ROW,
-        LOC => LOC_ROW,
-        REM => REM_ROW,
-        ALL_REP => ALL_REP_EN_ROW,
-        ASK_ALL_REP => ASK_ALL_REP_ROW,
-        ASK_ERRF => ASK_ERRF_ROW,
-        ASK_ERR => ASK_ERR_ROW,
-        ERRC => ERRC_ROW,
+        ASK_PS => Some(ASK_PS_ROW),
+        ASK_FL => Some(ASK_FL_ROW),
+        ASK_BL => Some(ASK_BL_ROW),
+        ASK_SPD => Some(ASK_SPD_ROW),
+        ASK_SPDH => Some(ASK_SPDH_ROW),
+        ASK_SPDM => Some(ASK_SPDM_ROW),
+        ASK_SPDL => Some(ASK_SPDL_ROW),
+        ASK_SETLS => Some(ASK_SETLS_ROW),
+        ASK_SETMT => Some(ASK_SETMT_ROW),
+        ASK_STS => Some(ASK_STS_ROW),
+        LOC => Some(LOC_ROW),
+        REM => Some(REM_ROW),
+        ALL_REP => Some(ALL_REP_EN_ROW),
+        ASK_ALL_REP => Some(ASK_ALL_REP_ROW),
+        ASK_ERRF => Some(ASK_ERRF_ROW),
+        ASK_ERR => Some(ASK_ERR_ROW),
+        ERRC => Some(ERRC_ROW),
         _ => request_row(word),
     }
 }
 
-// The first row of a word.
-pub fn first_row(word: u64) -> u8
+// The first row of a word, where it has one.
+#[tactic(auto, using(crate::proofs::TableLaws::none_before), unfolding(crate::specs::Computing::computing_form))]
+pub fn first_row(word: u64) -> Option<u8>
     ensures { Numbers result (rows_by false word) }
 {
     match word {
-        ABS => ABS_ROW,
-        REL => REL_ROW,
-        SCANP => SCANP_ROW,
-        SCANN => SCANN_ROW,
-        JOGP => JOGP_ROW,
-        JOGN => JOGN_ROW,
-        SSTP => SSTP_ROW,
-        ESTP => ESTP_ROW,
-        ASSTP => ASSTP_ROW,
-        AESTP => AESTP_ROW,
-        SPC => SPC_ROW,
-        PS => PS_ROW,
-        FL => FL_ROW,
-        BL => BL_ROW,
-        SPDH => SPDH_ROW,
-        SPDM => SPDM_ROW,
-        SPDL => SPDL_ROW,
-        SETLS => SETLS_ROW,
-        SETMT => SETMT_ROW,
+        ABS => Some(ABS_ROW),
+        REL => Some(REL_ROW),
+        SCANP => Some(SCANP_ROW),
+        SCANN => Some(SCANN_ROW),
+        JOGP => Some(JOGP_ROW),
+        JOGN => Some(JOGN_ROW),
+        SSTP => Some(SSTP_ROW),
+        ESTP => Some(ESTP_ROW),
+        ASSTP => Some(ASSTP_ROW),
+        AESTP => Some(AESTP_ROW),
+        SPC => Some(SPC_ROW),
+        PS => Some(PS_ROW),
+        FL => Some(FL_ROW),
+        BL => Some(BL_ROW),
+        SPDH => Some(SPDH_ROW),
+        SPDM => Some(SPDM_ROW),
+        SPDL => Some(SPDL_ROW),
+        SETLS => Some(SETLS_ROW),
+        SETMT => Some(SETMT_ROW),
         _ => later_row(word),
     }
 }
 
 // The second row of a word, where it has one.
-pub fn second_row(word: u64) -> u8
+#[tactic(auto, using(crate::proofs::TableLaws::none_with), unfolding(crate::specs::Computing::computing_form))]
+pub fn second_row(word: u64) -> Option<u8>
     ensures { Numbers result (rows_by true word) }
 {
     match word {
-        SPDH => SET_SPDH_ROW,
-        SPDM => SET_SPDM_ROW,
-        SPDL => SET_SPDL_ROW,
-        ALL_REP => ALL_REP_DS_ROW,
-        ERRC => ERRCE_ROW,
-        PAUSE => PAUSE_OFF_ROW,
-        _ => NO_ROW,
+        SPDH => Some(SET_SPDH_ROW),
+        SPDM => Some(SET_SPDM_ROW),
+        SPDL => Some(SET_SPDL_ROW),
+        ALL_REP => Some(ALL_REP_DS_ROW),
+        ERRC => Some(ERRCE_ROW),
+        PAUSE => Some(PAUSE_OFF_ROW),
+        _ => None,
     }
 }

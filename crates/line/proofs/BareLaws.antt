@@ -1,4 +1,5 @@
 -- Of every row with ±d, whatever its word and its order: a bare d means plus. Assumes nothing.
+use Rattle.std.specs.Prelude.{Option, Some, None}
 use mathlib.Core.Path.{◌≡◌, refl}
 use mathlib.Core.List.{List, ◌∷◌, ◌++◌}
 use mathlib.Core.Bool.{Bool, true, false, cond}
@@ -10,14 +11,10 @@ use lib.Seq.{take-append_seam, drop-append-add, get_or-append_seam, get_or-appen
 use lib.Dec.{eqb-suc-suc}
 use borrow.Author.Tests.{ne_eqb}
 use Rattle.text.specs.Text.{same, is_digit, is_hex, hex_value, number_at_front}
-use Rattle.text.specs.declared.decimal.Number.{Number}
-use Rattle.text.specs.declared.decimal.Number.TheVariants as N
+use Rattle.text.specs.declared.decimal.Digits.{Digits}
 use Rattle.text.proofs.TextLaws.{between}
 use Rattle.line.specs.declared.Fields.{Fields}
 use Rattle.line.specs.declared.Order.{Order}
-use Rattle.line.specs.declared.Parsed.{Parsed}
-use Rattle.line.specs.declared.Parsed.TheVariants.{Nothing}
-use Rattle.line.specs.declared.Got.TheVariants.{Here}
 use Rattle.line.specs.Shapes.{x±d, got_if, byte_at, no_fields, with_channel, onward, numbered, read_channel, read_number, read_signed, read_fields}
 use Rattle.line.proofs.ReadLaws.{last_field}
 use Rattle.line.specs.Forms.{Row, complete, fields_as_row, as_row}
@@ -38,13 +35,14 @@ plus_read f w d c =
     rw (get_or-append-add w (c ∷ code "+" ∷ d) 1 0, p, drop-append-add w (c ∷ code "+" ∷ d) 2)
 
 -- A number ends its line, or does not, with and without the + alike.
-same_end : (o : Fields → Order) (f : Fields) (w d : List ℕ) (c : ℕ) (n : Number)
+same_end : (o : Fields → Order) (f : Fields) (w d : List ℕ) (c : ℕ) (n : Option Digits)
     → complete o (w ++ c ∷ d) (numbered false f (length w + 1) n) ≡ complete o (w ++ c ∷ code "+" ∷ d) (numbered false f (length w + 1 + 1) n)
-same_end o f w d c (N.Read v k) =
+same_end o f w d c (Some n) =
+    let k = n.count in
     let p : length w + 1 + 1 + k ≡ suc (length w + 1 + k) = omega arith in
     let q : length w + suc (suc (length d)) ≡ suc (length w + suc (length d)) = omega arith in
     rw (length-append w (c ∷ d), length-append w (c ∷ code "+" ∷ d), p, q, eqb-suc-suc (length w + 1 + k) (length w + suc (length d)))
-same_end o f w d c N.Nothing = refl
+same_end o f w d c None = refl
 
 -- 02 §1: "Wherever a form takes ±d, let a bare d mean plus": whatever byte stands for x, and whatever follows the first digit.
 pub bare_plus : (w d : List ℕ) (o : Fields → Order) (c : ℕ) → is_digit (byte_at d 0) ≡ true
@@ -59,11 +57,11 @@ bare_plus w d o c h =
     g = with_channel no_fields (hex_value c)
 
     -- what the row makes of a line that begins with its word, by whether a channel stands for x
-    made : Bool → List ℕ → Parsed
-    made t s = cond (same w w) (complete o s (onward (got_if t g (length w + 1)) (λ f to. onward (read_signed f s to) (λ f to. Here f to)))) Nothing
+    made : Bool → List ℕ → Option Order
+    made t s = cond (same w w) (complete o s (onward (got_if t g (length w + 1)) (λ f to. onward (read_signed f s to) (λ f to. Some (f, to))))) None
 
     go : (t : Bool) → made t (w ++ c ∷ d) ≡ made t (w ++ c ∷ code "+" ∷ d)
     go true =
-        let n : Number = number_at_front d in
+        let n : Option Digits = number_at_front d in
         rw (bare_read g w d c h, plus_read g w d c, ← last_field (numbered false g (length w + 1) n), ← last_field (numbered false g (length w + 1 + 1) n), same_end o g w d c n)
     go false = refl

@@ -1,5 +1,6 @@
 -- Lines and the orders that they are, computed by the definitions. Each list is one statement, and its proof is the
 -- computation.
+use Rattle.std.specs.Prelude.{Option, Some, None}
 use mathlib.Core.Path.{◌≡◌, refl}
 use mathlib.Core.List.{[], ◌∷◌, ◌++◌, map}
 use mathlib.Core.Bool.{true, false}
@@ -12,16 +13,15 @@ use Rattle.line.specs.declared.Written.{Written}
 use Rattle.line.specs.declared.Start.TheVariants.{Abs, Rel, Scan, Jog}
 use Rattle.line.specs.declared.Setting.TheVariants.{Preset, SetCwLimit, SetCcwLimit, Select, SetSpeed, SetSwitches, SetMotor}
 use Rattle.line.specs.declared.Question.TheVariants.{AskPosition, AskCwLimit, AskCcwLimit, AskSelected, AskSpeed, AskSwitches, AskMotor, AskStatus}
+use Rattle.line.specs.declared.Order.{Order}
 use Rattle.line.specs.declared.Order.TheVariants.{Go, Stop, StopAll, ChangeSpeed, Set, Ask, AskHead, ForHead}
 use Rattle.line.specs.declared.HeadOrder.TheVariants.{Mode, AllReply, ClearErrors, ClearError, Pause}
 use Rattle.line.specs.declared.HeadQuestion.TheVariants.{AskAllReply, AskFlags, AskError, AskPause, AskBusy, AskFree}
-use Rattle.line.specs.declared.Parsed.{Parsed}
-use Rattle.line.specs.declared.Parsed.TheVariants.{Is, Nothing}
 use Rattle.line.specs.Forms.{order_of, on_card}
 use Rattle.line.specs.Computing.{computing_line}
 
 -- a quoted line as an order
-line : S.String → Parsed
+line : S.String → Option Order
 line s = order_of (bytes s)
 
 plus : ℕ → Written
@@ -33,43 +33,43 @@ minus n = record { minus = true; digits = n }
 -- every form once, with the order that it is
 every_form :
     (map line ("ABSB+5" ∷ "REL0-0000000013" ∷ "SCANP0" ∷ "SCANNF" ∷ "JOGP9" ∷ "JOGNA" ∷ [])
-    ≡ Is (Go 11 (Abs (plus 5))) ∷ Is (Go 0 (Rel (minus 13))) ∷ Is (Go 0 (Scan cw)) ∷ Is (Go 15 (Scan ccw)) ∷ Is (Go 9 (Jog cw)) ∷ Is (Go 10 (Jog ccw)) ∷ [])
+    ≡ Some (Go 11 (Abs (plus 5))) ∷ Some (Go 0 (Rel (minus 13))) ∷ Some (Go 0 (Scan cw)) ∷ Some (Go 15 (Scan ccw)) ∷ Some (Go 9 (Jog cw)) ∷ Some (Go 10 (Jog ccw)) ∷ [])
     × (map line ("SSTP3" ∷ "ESTP3" ∷ "ASSTP" ∷ "AESTP" ∷ "SPC0400" ∷ [])
-    ≡ Is (Stop 3 0x40) ∷ Is (Stop 3 0x80) ∷ Is (StopAll 0x40) ∷ Is (StopAll 0x80) ∷ Is (ChangeSpeed 0 400) ∷ [])
+    ≡ Some (Stop 3 0x40) ∷ Some (Stop 3 0x80) ∷ Some (StopAll 0x40) ∷ Some (StopAll 0x80) ∷ Some (ChangeSpeed 0 400) ∷ [])
     × (map line ("PS0-2147483648" ∷ "FL0+3" ∷ "BL7-30" ∷ "SPDH1" ∷ "SPDM1" ∷ "SPDL1" ∷ [])
-    ≡ Is (Set 0 (Preset (minus 2147483648))) ∷ Is (Set 0 (SetCwLimit (plus 3))) ∷ Is (Set 7 (SetCcwLimit (minus 30))) ∷ Is (Set 1 (Select 2)) ∷ Is (Set 1 (Select 1)) ∷ Is (Set 1 (Select 0)) ∷ [])
+    ≡ Some (Set 0 (Preset (minus 2147483648))) ∷ Some (Set 0 (SetCwLimit (plus 3))) ∷ Some (Set 7 (SetCcwLimit (minus 30))) ∷ Some (Set 1 (Select 2)) ∷ Some (Set 1 (Select 1)) ∷ Some (Set 1 (Select 0)) ∷ [])
     × (map line ("SPDH05000000" ∷ "SPDM0800" ∷ "SPDLF1" ∷ "SETLS0D" ∷ "SETLS011110020" ∷ "SETMT01912" ∷ [])
-    ≡ Is (Set 0 (SetSpeed 2 5000000)) ∷ Is (Set 0 (SetSpeed 1 800)) ∷ Is (Set 15 (SetSpeed 0 1)) ∷ Nothing ∷ Is (Set 0 (SetSwitches (record { a = 1; b = 1; c = 1; d = 1 }) (record { a = 0; b = 0; c = 2; d = 0 }))) ∷ Is (Set 0 (SetMotor (record { a = 1; b = 9; c = 1; d = 2 }))) ∷ [])
+    ≡ Some (Set 0 (SetSpeed 2 5000000)) ∷ Some (Set 0 (SetSpeed 1 800)) ∷ Some (Set 15 (SetSpeed 0 1)) ∷ None ∷ Some (Set 0 (SetSwitches (record { a = 1; b = 1; c = 1; d = 1 }) (record { a = 0; b = 0; c = 2; d = 0 }))) ∷ Some (Set 0 (SetMotor (record { a = 1; b = 9; c = 1; d = 2 }))) ∷ [])
     × (map line ("PS?0" ∷ "FL?0" ∷ "BL?0" ∷ "SPD?0" ∷ "SPDH?0" ∷ "SPDM?0" ∷ "SPDL?0" ∷ "SETLS?0" ∷ "SETMT?0" ∷ "STS0?" ∷ [])
-    ≡ map (λ q. Is (Ask 0 q)) (AskPosition ∷ AskCwLimit ∷ AskCcwLimit ∷ AskSelected ∷ AskSpeed 2 ∷ AskSpeed 1 ∷ AskSpeed 0 ∷ AskSwitches ∷ AskMotor ∷ AskStatus ∷ []))
+    ≡ map (λ q. Some (Ask 0 q)) (AskPosition ∷ AskCwLimit ∷ AskCcwLimit ∷ AskSelected ∷ AskSpeed 2 ∷ AskSpeed 1 ∷ AskSpeed 0 ∷ AskSwitches ∷ AskMotor ∷ AskStatus ∷ []))
     × (map line ("LOC" ∷ "REM" ∷ "ALL_REP EN" ∷ "ALL_REP DS" ∷ "ALL_REP?" ∷ "ERRF?" ∷ "ERR?" ∷ "ERRC" ∷ "ERRC9" ∷ [])
-    ≡ Is (ForHead (Mode 0)) ∷ Is (ForHead (Mode 1)) ∷ Is (ForHead (AllReply 1)) ∷ Is (ForHead (AllReply 0)) ∷ Is (AskHead AskAllReply) ∷ Is (AskHead AskFlags) ∷ Is (AskHead AskError) ∷ Is (ForHead ClearErrors) ∷ Is (ForHead (ClearError 9)) ∷ [])
+    ≡ Some (ForHead (Mode 0)) ∷ Some (ForHead (Mode 1)) ∷ Some (ForHead (AllReply 1)) ∷ Some (ForHead (AllReply 0)) ∷ Some (AskHead AskAllReply) ∷ Some (AskHead AskFlags) ∷ Some (AskHead AskError) ∷ Some (ForHead ClearErrors) ∷ Some (ForHead (ClearError 9)) ∷ [])
     × (map line ("PAUSE ON" ∷ "PAUSE OFF" ∷ "PAUSE?" ∷ "BSY?" ∷ "STQ?" ∷ [])
-    ≡ Is (ForHead (Pause 1)) ∷ Is (ForHead (Pause 0)) ∷ Is (AskHead AskPause) ∷ Is (AskHead AskBusy) ∷ Is (AskHead AskFree) ∷ [])
+    ≡ Some (ForHead (Pause 1)) ∷ Some (ForHead (Pause 0)) ∷ Some (AskHead AskPause) ∷ Some (AskHead AskBusy) ∷ Some (AskHead AskFree) ∷ [])
 unfolding computing_line line plus minus
 every_form = (refl, refl, refl, refl, refl, refl, refl)
 
 -- every form that names a channel once more, with a letter for it, which can be nothing but the channel
 lettered :
     (map line ("ABSB+5" ∷ "RELC-0000000013" ∷ "SCANPD" ∷ "SCANNF" ∷ "JOGPE" ∷ "JOGNA" ∷ [])
-    ≡ Is (Go 11 (Abs (plus 5))) ∷ Is (Go 12 (Rel (minus 13))) ∷ Is (Go 13 (Scan cw)) ∷ Is (Go 15 (Scan ccw)) ∷ Is (Go 14 (Jog cw)) ∷ Is (Go 10 (Jog ccw)) ∷ [])
+    ≡ Some (Go 11 (Abs (plus 5))) ∷ Some (Go 12 (Rel (minus 13))) ∷ Some (Go 13 (Scan cw)) ∷ Some (Go 15 (Scan ccw)) ∷ Some (Go 14 (Jog cw)) ∷ Some (Go 10 (Jog ccw)) ∷ [])
     × (map line ("SSTPB" ∷ "ESTPC" ∷ "SPCD400" ∷ [])
-    ≡ Is (Stop 11 0x40) ∷ Is (Stop 12 0x80) ∷ Is (ChangeSpeed 13 400) ∷ [])
+    ≡ Some (Stop 11 0x40) ∷ Some (Stop 12 0x80) ∷ Some (ChangeSpeed 13 400) ∷ [])
     × (map line ("PSA-2147483648" ∷ "FLB+3" ∷ "BLC-30" ∷ "SPDHD" ∷ "SPDME" ∷ "SPDLF" ∷ [])
-    ≡ Is (Set 10 (Preset (minus 2147483648))) ∷ Is (Set 11 (SetCwLimit (plus 3))) ∷ Is (Set 12 (SetCcwLimit (minus 30))) ∷ Is (Set 13 (Select 2)) ∷ Is (Set 14 (Select 1)) ∷ Is (Set 15 (Select 0)) ∷ [])
+    ≡ Some (Set 10 (Preset (minus 2147483648))) ∷ Some (Set 11 (SetCwLimit (plus 3))) ∷ Some (Set 12 (SetCcwLimit (minus 30))) ∷ Some (Set 13 (Select 2)) ∷ Some (Set 14 (Select 1)) ∷ Some (Set 15 (Select 0)) ∷ [])
     × (map line ("SPDHA5000000" ∷ "SPDMB800" ∷ "SPDLC1" ∷ "SETLSD11110020" ∷ "SETMTE1912" ∷ [])
-    ≡ Is (Set 10 (SetSpeed 2 5000000)) ∷ Is (Set 11 (SetSpeed 1 800)) ∷ Is (Set 12 (SetSpeed 0 1)) ∷ Is (Set 13 (SetSwitches (record { a = 1; b = 1; c = 1; d = 1 }) (record { a = 0; b = 0; c = 2; d = 0 }))) ∷ Is (Set 14 (SetMotor (record { a = 1; b = 9; c = 1; d = 2 }))) ∷ [])
+    ≡ Some (Set 10 (SetSpeed 2 5000000)) ∷ Some (Set 11 (SetSpeed 1 800)) ∷ Some (Set 12 (SetSpeed 0 1)) ∷ Some (Set 13 (SetSwitches (record { a = 1; b = 1; c = 1; d = 1 }) (record { a = 0; b = 0; c = 2; d = 0 }))) ∷ Some (Set 14 (SetMotor (record { a = 1; b = 9; c = 1; d = 2 }))) ∷ [])
     × (map line ("PS?A" ∷ "FL?A" ∷ "BL?A" ∷ "SPD?A" ∷ "SPDH?A" ∷ "SPDM?A" ∷ "SPDL?A" ∷ "SETLS?A" ∷ "SETMT?A" ∷ "STSA?" ∷ [])
-    ≡ map (λ q. Is (Ask 10 q)) (AskPosition ∷ AskCwLimit ∷ AskCcwLimit ∷ AskSelected ∷ AskSpeed 2 ∷ AskSpeed 1 ∷ AskSpeed 0 ∷ AskSwitches ∷ AskMotor ∷ AskStatus ∷ []))
+    ≡ map (λ q. Some (Ask 10 q)) (AskPosition ∷ AskCwLimit ∷ AskCcwLimit ∷ AskSelected ∷ AskSpeed 2 ∷ AskSpeed 1 ∷ AskSpeed 0 ∷ AskSwitches ∷ AskMotor ∷ AskStatus ∷ []))
 unfolding computing_line line plus minus
 lettered = (refl, refl, refl, refl, refl)
 
 -- 02 §1: "let a bare d mean plus", wherever ±d stands. x is one byte, read first, and leading zeros count among the ten digits.
 bare :
     (map line ("ABS0100" ∷ "ABS01" ∷ "ABSA5" ∷ "ABS00" ∷ "ABS00000000013" ∷ "ABS09999999999" ∷ [])
-    ≡ map (λ o. Is o) (Go 0 (Abs (plus 100)) ∷ Go 0 (Abs (plus 1)) ∷ Go 10 (Abs (plus 5)) ∷ Go 0 (Abs (plus 0)) ∷ Go 0 (Abs (plus 13)) ∷ Go 0 (Abs (plus 9999999999)) ∷ []))
+    ≡ map (λ o. Some o) (Go 0 (Abs (plus 100)) ∷ Go 0 (Abs (plus 1)) ∷ Go 10 (Abs (plus 5)) ∷ Go 0 (Abs (plus 0)) ∷ Go 0 (Abs (plus 13)) ∷ Go 0 (Abs (plus 9999999999)) ∷ []))
     × (map line ("REL05" ∷ "PS02147483648" ∷ "FL0250" ∷ "BL7030" ∷ [])
-    ≡ map (λ o. Is o) (Go 0 (Rel (plus 5)) ∷ Set 0 (Preset (plus 2147483648)) ∷ Set 0 (SetCwLimit (plus 250)) ∷ Set 7 (SetCcwLimit (plus 30)) ∷ []))
+    ≡ map (λ o. Some o) (Go 0 (Rel (plus 5)) ∷ Set 0 (Preset (plus 2147483648)) ∷ Set 0 (SetCwLimit (plus 250)) ∷ Set 7 (SetCcwLimit (plus 30)) ∷ []))
 unfolding computing_line line plus
 bare = (refl, refl)
 
@@ -79,7 +79,7 @@ no_number :
     map line
     ("ABS0" ∷ "ABS0+" ∷ "ABS0-" ∷ "REL0" ∷ "PS0" ∷ "FL0+" ∷ "BL0-" ∷ "ABS0++5" ∷ "ABS0+-5" ∷ "REL0--5" ∷ "PS0-+5" ∷ "ABS05+" ∷ "ABS0 5" ∷ "ABSG5"
     ∷ "ABS000000000013" ∷ "PS012345678901" ∷ "PS0+12345678901" ∷ "SPC0+400" ∷ "SPC0-400" ∷ "SPDH0+400" ∷ "JOGP05" ∷ "SCANP0+5" ∷ [])
-    ≡ replicate 22 Nothing
+    ≡ replicate 22 None
 unfolding computing_line line
 no_number = refl
 
@@ -91,7 +91,7 @@ no_form :
     ∷ "ABSBB+5" ∷ "SPC012345678901" ∷ "SPC0" ∷ "SPDM0800X" ∷ "SPDM" ∷ "SPDX0" ∷ "SETLS011111000" ∷ "SETLS01111000"
     ∷ "SETLS0111100000" ∷ "SETMT0110" ∷ "SETMT011000" ∷ "STS0" ∷ "STS?0" ∷ "PS?" ∷ "PS?0?" ∷ "ALL_REP  EN" ∷ "ALL_REP" ∷ "ERRC00"
     ∷ "ERRCA" ∷ "ERRF" ∷ "SSTP" ∷ "ASSTP0" ∷ "C0RLN01+5/+0" ∷ [])
-    ≡ replicate 32 Nothing
+    ≡ replicate 32 None
 unfolding computing_line line
 no_form = refl
 
@@ -101,23 +101,23 @@ no_pause :
     map line
     ("PAUSE" ∷ "PAUSE " ∷ "PAUSEON" ∷ "PAUSE  ON" ∷ "PAUSE ?" ∷ "PAUSE? " ∷ "PAUSE?0" ∷ "PAUSE O" ∷ "PAUSE OF" ∷ "PAUSE ONN" ∷ "PAUSE OFFF" ∷ "PAUSE OFN"
     ∷ "PAUSE OXF" ∷ "PAUSE ON " ∷ "PAUSE OFF " ∷ "PAUSE on" ∷ "PAUSE0 ON" ∷ "PAUSE EN" ∷ "ALL_REP ON" ∷ "PAUS ON" ∷ "BSY" ∷ "BSY?0" ∷ "BSY? " ∷ "BSY0?" ∷ "BUSY?" ∷ "STQ" ∷ "STQ?0" ∷ "STQ0?" ∷ "STQ? " ∷ "stq?" ∷ [])
-    ≡ replicate 30 Nothing
+    ≡ replicate 30 None
 unfolding computing_line line
 no_pause = refl
 
 -- bytes over 127, and lines of 81 bytes; no form is longer than fifteen bytes, so that the limit of 80 refuses no line that
 -- has one
 long_lines :
-    (order_of (0xc1 ∷ 0xff ∷ []) ≡ Nothing) × (order_of (bytes "REM" ++ replicate 78 0) ≡ Nothing)
-    × (order_of (replicate 81 65) ≡ Nothing)
+    (order_of (0xc1 ∷ 0xff ∷ []) ≡ None) × (order_of (bytes "REM" ++ replicate 78 0) ≡ None)
+    × (order_of (replicate 81 65) ≡ None)
 unfolding computing_line
 long_lines = (refl, refl, refl)
 
 -- 02 §7: `STQ?` has a form on the four-motor card alone, and every other line on both
 cards :
-    (map (λ card. on_card card (line "STQ?")) (0 ∷ 1 ∷ []) ≡ Nothing ∷ Is (AskHead AskFree) ∷ [])
-    × (map (λ card. on_card card (line "BSY?")) (0 ∷ 1 ∷ []) ≡ Is (AskHead AskBusy) ∷ Is (AskHead AskBusy) ∷ [])
-    × (map (λ card. on_card card (line "SCANP0")) (0 ∷ 1 ∷ []) ≡ Is (Go 0 (Scan cw)) ∷ Is (Go 0 (Scan cw)) ∷ [])
-    × (on_card 1 (line "STQ") ≡ Nothing)
+    (map (λ card. on_card card (line "STQ?")) (0 ∷ 1 ∷ []) ≡ None ∷ Some (AskHead AskFree) ∷ [])
+    × (map (λ card. on_card card (line "BSY?")) (0 ∷ 1 ∷ []) ≡ Some (AskHead AskBusy) ∷ Some (AskHead AskBusy) ∷ [])
+    × (map (λ card. on_card card (line "SCANP0")) (0 ∷ 1 ∷ []) ≡ Some (Go 0 (Scan cw)) ∷ Some (Go 0 (Scan cw)) ∷ [])
+    × (on_card 1 (line "STQ") ≡ None)
 unfolding computing_line line
 cards = (refl, refl, refl, refl)

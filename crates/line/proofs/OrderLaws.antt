@@ -1,5 +1,6 @@
 -- What every order of a line is: it names one of the sixteen channels, its directions, speed numbers, end flags and head bytes
 -- are those that document 01 gives, and the 0 of DYYY0yyy is 0. Assumes nothing.
+use Rattle.std.specs.Prelude.{Option, Some, None}
 use Prim.Native.Char.{code}
 use Prim.Native.Nat.{ℕ, ◌+◌, ◌≤◌}
 use native.Mathlib.Omega.{arith}
@@ -10,16 +11,12 @@ use lib.ListN.{length, take, drop}
 use lib.Dec.{eqb, leb}
 use borrow.Author.Tests.{leb-true, le-leb, eqb-true}
 use Rattle.text.specs.Text.{is_digit, is_hex, hex_value, same, digits_at_front, number_at_front}
-use Rattle.text.specs.declared.decimal.Number.{Number}
-use Rattle.text.specs.declared.decimal.Number.TheVariants as N
+use Rattle.text.specs.declared.decimal.Digits.{Digits}
 use Rattle.line.specs.declared.Fields.{Fields}
 use Rattle.line.specs.declared.Field.{Field}
 use Rattle.line.specs.declared.Field.TheVariants.{Channel, Signed, Unsigned, Digit, Question, FourDigits, ZeroThree, Enable, Disable, On, Off, End, Never}
-use Rattle.line.specs.declared.Got.{Got}
-use Rattle.line.specs.declared.Got.TheVariants.{Here, Absent}
+use Rattle.line.specs.Shapes.{Got}
 use Rattle.line.specs.declared.Order.{Order}
-use Rattle.line.specs.declared.Parsed.{Parsed}
-use Rattle.line.specs.declared.Parsed.TheVariants.{Is, Nothing}
 use Rattle.line.specs.Shapes.{got_if, with_channel, with_written, with_first, with_second, byte_at, digit_at, four_of, numbered, no_fields, onward, read_channel, read_number, read_signed, read_digit, read_question, read_letters, read_three, read_four, read_zero_three, read_field, read_fields}
 use Rattle.line.specs.Forms.{Row, forms, complete, fields_as_row, as_row, first_of, first_form, order_of}
 use Rattle.line.specs.Made.{order_made, parsed_made}
@@ -30,8 +27,8 @@ abbrev fields_made : Fields → Bool
 fields_made f = leb f.channel 15 && eqb f.second.a 0
 
 abbrev got_made : Got → Bool
-got_made (Here f at) = fields_made f
-got_made Absent = true
+got_made (Some (f, at)) = fields_made f
+got_made None = true
 
 hex_bound : (b : ℕ) → is_hex b ≡ true → hex_value b ≤ 15
 unfolding hex_value
@@ -45,9 +42,9 @@ got_made_law : (t : Bool) (f : Fields) (at : ℕ) → fields_made f ≡ true →
 got_made_law true f at h = h
 got_made_law false f at h = refl
 
-number_made : (minus : Bool) (f : Fields) (at : ℕ) (n : Number) → fields_made f ≡ true → got_made (numbered minus f at n) ≡ true
-number_made minus f at (N.Read v count) h = h
-number_made minus f at N.Nothing h = refl
+number_made : (minus : Bool) (f : Fields) (at : ℕ) (n : Option Digits) → fields_made f ≡ true → got_made (numbered minus f at n) ≡ true
+number_made minus f at (Some d) h = h
+number_made minus f at None h = refl
 
 either_made : (t : Bool) (a b : Got) → got_made a ≡ true → got_made b ≡ true → got_made (cond t a b) ≡ true
 either_made true a b p q = p
@@ -82,7 +79,7 @@ field_made : (k : Field) (f : Fields) (s : List ℕ) (at : ℕ) → fields_made 
 unfolding read_number read_signed read_digit read_question read_letters read_three read_four
 field_made Channel f s at h = channel_made f s at h
 field_made Signed f s at h =
-    let n : Number = number_at_front (drop (at + 1) s) in
+    let n : Option Digits = number_at_front (drop (at + 1) s) in
     either_made (eqb (byte_at s at) (code "+")) _ _ (number_made false f (at + 1) n h)
     (either_made (eqb (byte_at s at) (code "-")) _ _ (number_made true f (at + 1) n h) (number_made _ f at (number_at_front (drop at s)) h))
 field_made Unsigned f s at h = number_made false f at (number_at_front (drop at s)) h
@@ -105,8 +102,8 @@ fields_made_law (k ∷ ks) f s at h = go (read_field k f s at) (field_made k f s
   where
     go : (t : Got) → got_made t ≡ true → ((g : Fields) (to : ℕ) → fields_made g ≡ true → got_made (read_fields ks g s to) ≡ true)
         → got_made (onward t (λ g to. read_fields ks g s to)) ≡ true
-    go (Here g to) p later = later g to p
-    go Absent p later = refl
+    go (Some (g, to)) p later = later g to p
+    go None p later = refl
 
 -- a test that every row passes
 every_row : (Row → Bool) → List Row → Bool
@@ -122,12 +119,12 @@ rows_made f h =
 
 complete_made : (o : Fields → Order) (s : List ℕ) (t : Got) → ((f : Fields) → fields_made f ≡ true → order_made (o f) ≡ true) → got_made t ≡ true
     → parsed_made (complete o s t) ≡ true
-complete_made o s (Here f at) made h = go (eqb at (length s))
+complete_made o s (Some (f, at)) made h = go (eqb at (length s))
   where
-    go : (t : Bool) → parsed_made (cond t (Is (o f)) Nothing) ≡ true
+    go : (t : Bool) → parsed_made (cond t (Some (o f)) None) ≡ true
     go true = made f h
     go false = refl
-complete_made o s Absent made h = refl
+complete_made o s None made h = refl
 
 row_made : (r : Row) (s : List ℕ) → ((f : Fields) → fields_made f ≡ true → order_made (r.order f) ≡ true) → parsed_made (as_row r s) ≡ true
 unfolding as_row fields_as_row
@@ -136,7 +133,7 @@ row_made r s made = go (same (take (length r.word) s) r.word)
     n : ℕ
     n = length r.word
 
-    go : (t : Bool) → parsed_made (cond t (complete r.order s (read_fields r.fields no_fields s n)) Nothing) ≡ true
+    go : (t : Bool) → parsed_made (cond t (complete r.order s (read_fields r.fields no_fields s n)) None) ≡ true
     go true = complete_made r.order s (read_fields r.fields no_fields s n) made (fields_made_law r.fields no_fields s n refl)
     go false = refl
 
@@ -150,15 +147,15 @@ first_made (r ∷ rs) s made =
     both : (f : Fields) → fields_made f ≡ true → (order_made (r.order f) ≡ true) × (every_row (λ q. order_made (q.order f)) rs ≡ true)
     both f h = (and-eq-true_iff (order_made (r.order f)) (every_row (λ q. order_made (q.order f)) rs)).0 (made f h)
 
-    go : (t : Parsed) → parsed_made t ≡ true → parsed_made (first_form rs s) ≡ true → parsed_made (first_of t (first_form rs s)) ≡ true
-    go (Is o) p q = p
-    go Nothing p q = q
+    go : (t : Option Order) → parsed_made t ≡ true → parsed_made (first_form rs s) ≡ true → parsed_made (first_of t (first_form rs s)) ≡ true
+    go (Some o) p q = p
+    go None p q = q
 
 -- What a line is, is such an order, or nothing.
 pub line_made : (s : List ℕ) → parsed_made (order_of s) ≡ true
 unfolding order_of
 line_made s = go (leb (length s) 80)
   where
-    go : (t : Bool) → parsed_made (cond t (first_form forms s) Nothing) ≡ true
+    go : (t : Bool) → parsed_made (cond t (first_form forms s) None) ≡ true
     go true = first_made forms s rows_made
     go false = refl

@@ -1,20 +1,24 @@
 -- Where a field stands, the line has not ended yet, so the place after it is within the line; and the last field ends the
 -- fields. Assumes nothing.
+use Rattle.std.specs.Prelude.{Some, None, nat_eq}
 use Prim.Native.Char.{code}
-use mathlib.Core.Path.{◌≡◌, refl}
-use mathlib.Core.List.{List}
-use mathlib.Core.Bool.{Bool, true, false}
-use Prim.Native.Nat.{ℕ, zero, suc, ◌+◌, ◌<◌, ◌≤◌}
+use mathlib.Core.Path.{◌≡◌, refl, sym, ap, ◌∙◌}
+use mathlib.Core.List.{List, [], ◌∷◌}
+use Rattle.std.specs.Cmp.Lexicographic.{pointwise}
+use mathlib.Core.Bool.{Bool, true, false, ◌&&◌, and-true, and_assoc}
+use Prim.Native.Nat.{ℕ, zero, suc, ◌+◌, ◌-◌, ◌<◌, ◌≤◌}
 use native.Mathlib.Omega.{arith}
-use lib.Dec.{leb}
-use lib.ListN.{length, drop, length-drop, get_or-eq_default}
-use borrow.Author.Tests.{leb-true, leb-false}
-use Rattle.text.specs.Text.{is_digit, is_hex, digits_at_front, number_at_front}
-use Rattle.text.specs.declared.decimal.Number.TheVariants.{Read}
+use lib.Dec.{leb, eqb}
+use lib.ListN.{length, take, drop, drop_of_length-le, length-drop, get_or, get_or-eq_default}
+use lib.Seq.{get_or-drop, take_all}
+use native.Mathlib.Nat.{add-zero}
+use borrow.Author.Tests.{leb-true, leb-false, eq-eqb, ne_eqb, eqb-true, eqb-false}
+use Rattle.text.specs.Text.{same, is_digit, is_hex, digits_at_front, number_at_front}
+use Rattle.text.specs.declared.decimal.Digits.{Digits}
 use Rattle.text.proofs.TextLaws.{between, digits_within, number_found}
-use Rattle.line.specs.declared.Got.{Got}
-use Rattle.line.specs.declared.Got.TheVariants.{Here, Absent}
-use Rattle.line.specs.Shapes.{byte_at, onward}
+use Rattle.line.specs.Shapes.{Got}
+use Rattle.line.specs.Shapes.{got_if, byte_at, onward, read_question, read_letters, read_three}
+use Rattle.line.specs.declared.Fields.{Fields}
 
 -- Past the end of a line stands 0, so any other byte stands within it.
 pub byte_there : (s : List ℕ) (at : ℕ) → 0 < byte_at s at → at < length s
@@ -25,6 +29,9 @@ byte_there s at h = go (leb (length s) at) refl
         let z : byte_at s at ≡ 0 = get_or-eq_default s 0 (leb-true (length s) at e) in
         absurd (omega arith)
     go false e = leb-false (length s) at e
+
+pub byte_past : (s : List ℕ) (at : ℕ) → length s ≤ at → byte_at s at ≡ 0
+byte_past s at h = get_or-eq_default s 0 h
 
 -- 0 is no digit, decimal or hex.
 pub digit_above : (b : ℕ) → is_digit b ≡ true → 0 < b
@@ -38,12 +45,72 @@ hex_above (suc b) e = omega arith
 pub four_there : (s : List ℕ) (at : ℕ) → 4 ≤ digits_at_front (drop at s) → at + 4 ≤ length s
 four_there s at h = omega (arith, digits_within (drop at s), length-drop at s)
 
-pub number_there : (s : List ℕ) (at v n : ℕ) → number_at_front (drop at s) ≡ Read v n → at + n ≤ length s
-number_there s at v n e =
-    let w = number_found (drop at s) v n e in
+pub number_there : (s : List ℕ) (at : ℕ) (d : Digits) → number_at_front (drop at s) ≡ Some d → at + d.count ≤ length s
+number_there s at d e =
+    let w = number_found (drop at s) d e in
     omega (arith, length-drop at s)
 
 -- Nothing is read after the last field.
-pub last_field : (t : Got) → t ≡ onward t (λ f to. Here f to)
-last_field (Here f to) = refl
-last_field Absent = refl
+pub last_field : (t : Got) → t ≡ onward t (λ f to. Some (f, to))
+last_field (Some (f, to)) = refl
+last_field None = refl
+
+-- The part from a place on is all that is left there.
+pub rest_whole : (s : List ℕ) (at : ℕ) → take (length s - at) (drop at s) ≡ drop at s
+rest_whole s at = take_all (length s - at) (drop at s) (omega (arith, length-drop at s))
+
+-- A text of a letter at least does not stand past the end, and where it stands is as the library compares.
+pub text_past : (s t : List ℕ) (at : ℕ) → length s < at → 1 ≤ length t → same (take (length t) (drop at s)) t ≡ false
+unfolding same
+text_past s [] at p q = absurd (omega arith)
+text_past s (b ∷ t) at p q = rw (drop_of_length-le s {i = at} (omega arith))
+
+pub eqb_flip : (a b : ℕ) → eqb a b ≡ eqb b a
+eqb_flip a b = go (eqb a b) refl
+  where
+    go : (t : Bool) → eqb a b ≡ t → t ≡ eqb b a
+    go true e = sym (eq-eqb b a (sym (eqb-true a b e)))
+    go false e = sym (ne_eqb b a (λ i. eqb-false a b e (sym i)))
+
+pub text_same : (t s : List ℕ) → pointwise nat_eq t s ≡ same s t
+unfolding same
+text_same [] [] = refl
+text_same [] (b ∷ s) = refl
+text_same (a ∷ t) [] = refl
+text_same (a ∷ t) (b ∷ s) = rw (eqb_flip a b, text_same t s)
+
+-- A text of one, two or three letters stands where each of them does.
+above_none : (a : ℕ) → 0 < a → eqb 0 a ≡ false
+above_none a h = ne_eqb 0 a (λ e. absurd (omega (arith, e, h)))
+
+one_stands : (a : ℕ) (t : List ℕ) → 0 < a → same (take 1 t) (a ∷ []) ≡ eqb (get_or t 0 0) a
+unfolding same
+one_stands a [] p = rw (above_none a p)
+one_stands a (x ∷ t) p = and-true (eqb x a)
+
+two_stand : (a b : ℕ) (t : List ℕ) → 0 < a → 0 < b → same (take 2 t) (a ∷ b ∷ []) ≡ (eqb (get_or t 0 0) a && eqb (get_or t 1 0) b)
+unfolding same
+two_stand a b [] p q = rw (above_none a p)
+two_stand a b (x ∷ t) p q = ap (λ r. eqb x a && r) (one_stands b t q)
+
+three_stand : (a b c : ℕ) (t : List ℕ) → 0 < a → 0 < b → 0 < c
+    → same (take 3 t) (a ∷ b ∷ c ∷ []) ≡ (eqb (get_or t 0 0) a && eqb (get_or t 1 0) b && eqb (get_or t 2 0) c)
+unfolding same
+three_stand a b c [] p q r = rw (above_none a p)
+three_stand a b c (x ∷ t) p q r = ap (λ d. eqb x a && d) (two_stand b c t q r) ∙ sym (and_assoc (eqb x a) (eqb (get_or t 0 0) b) (eqb (get_or t 1 0) c))
+
+-- So the fields that are texts are read as one.
+pub question_read : (f : Fields) (s : List ℕ) (at : ℕ) → got_if (same (take 1 (drop at s)) (code "?" ∷ [])) f (at + 1) ≡ read_question f s at
+unfolding read_question
+question_read f s at = rw (one_stands (code "?") (drop at s) (omega arith), get_or-drop at s 0 0, add-zero at)
+
+pub letters_read : (a b : ℕ) (f : Fields) (s : List ℕ) (at : ℕ) → 0 < a → 0 < b
+    → got_if (same (take 2 (drop at s)) (a ∷ b ∷ [])) f (at + 2) ≡ read_letters a b f s at
+unfolding read_letters
+letters_read a b f s at p q = rw (two_stand a b (drop at s) p q, get_or-drop at s 0 0, get_or-drop at s 1 0, add-zero at)
+
+pub three_read : (a b c : ℕ) (f : Fields) (s : List ℕ) (at : ℕ) → 0 < a → 0 < b → 0 < c
+    → got_if (same (take 3 (drop at s)) (a ∷ b ∷ c ∷ [])) f (at + 3) ≡ read_three a b c f s at
+unfolding read_three
+three_read a b c f s at p q r =
+    rw (three_stand a b c (drop at s) p q r, get_or-drop at s 0 0, get_or-drop at s 1 0, get_or-drop at s 2 0, add-zero at)

@@ -1,5 +1,6 @@
 -- A row's stencil: for each place of a line, the bytes that may stand there in a line of that form. Two stencils that have no
 -- byte in common at some place fit no line both. Assumes nothing.
+use Rattle.std.specs.Prelude.{Some, None}
 use mathlib.Core.Path.{◌≡◌, refl, sym, ap, ◌∙◌}
 use mathlib.Core.List.{List, [], ◌∷◌, ◌++◌, map}
 use mathlib.Core.Bool.{Bool, true, false, ◌&&◌, ◌||◌, cond, and-eq-true_iff, false≢true}
@@ -13,12 +14,10 @@ use lib.Seq.{drop-cons, drop-length}
 use lib.Dec.{leb, ltb, eqb}
 use borrow.Author.Tests.{eqb-true, leb-true, leb-false, le-leb, lt-leb, ltb-true}
 use Rattle.text.specs.Text.{same, is_digit, is_hex, digits_at_front, value_of, number_at_front}
-use Rattle.text.specs.declared.decimal.Number.TheVariants as N
 use Rattle.line.specs.declared.Fields.{Fields}
 use Rattle.line.specs.declared.Field.{Field}
 use Rattle.line.specs.declared.Field.TheVariants.{Channel, Signed, Unsigned, Digit, Question, FourDigits, ZeroThree, Enable, Disable, On, Off, End, Never}
-use Rattle.line.specs.declared.Got.{Got}
-use Rattle.line.specs.declared.Got.TheVariants.{Here, Absent}
+use Rattle.line.specs.Shapes.{Got}
 use Rattle.line.specs.Shapes.{got_if, byte_at, read_channel, read_number, read_signed, read_digit, read_question, read_letters, read_three, read_four, read_zero_three, read_field, onward, read_fields, numbered}
 
 -- bytes from one to another, both among them
@@ -182,27 +181,27 @@ digits_first s at n h = go (leb (length s) at) refl
 
 -- A field that is there if a test holds is there where it does, and nowhere else.
 place : Got → ℕ
-place (Here f at) = at
-place Absent = 0
+place (Some (f, at)) = at
+place None = 0
 
 here : Got → Bool
-here (Here f at) = true
-here Absent = false
+here (Some (f, at)) = true
+here None = false
 
-got_if_law : (t : Bool) (f g : Fields) (n to : ℕ) → got_if t f n ≡ Here g to → (t ≡ true) × (n ≡ to)
+got_if_law : (t : Bool) (f g : Fields) (n to : ℕ) → got_if t f n ≡ Some (g, to) → (t ≡ true) × (n ≡ to)
 unfolding place here
 got_if_law true f g n to e = (refl, ap place e)
 got_if_law false f g n to e = absurd (false≢true (ap here e))
 
 -- A number begins with a digit.
-number_first : (minus : Bool) (f g : Fields) (s : List ℕ) (at to : ℕ) → read_number minus f s at ≡ Here g to → is_digit (byte_at s at) ≡ true
+number_first : (minus : Bool) (f g : Fields) (s : List ℕ) (at to : ℕ) → read_number minus f s at ≡ Some (g, to) → is_digit (byte_at s at) ≡ true
 unfolding read_number number_at_front here
 number_first minus f g s at to e = go (leb 1 n && leb n 10) refl e
   where
     n : ℕ
     n = digits_at_front (drop at s)
 
-    go : (t : Bool) → (leb 1 n && leb n 10) ≡ t → numbered minus f at (cond t (N.Read (value_of (take n (drop at s))) n) N.Nothing) ≡ Here g to
+    go : (t : Bool) → (leb 1 n && leb n 10) ≡ t → numbered minus f at (cond t (Some (record { value = value_of (take n (drop at s)); count = n })) None) ≡ Some (g, to)
         → is_digit (byte_at s at) ≡ true
     go true h e = (digits_first s at 0 (leb-true 1 n ((and-eq-true_iff (leb 1 n) (leb n 10)).0 h).0)).0
     go false h e = absurd (false≢true (ap here e))
@@ -236,7 +235,7 @@ three_decimals cs e s at h f =
     (byte_fits decimals cs e s (at + 1 + 1) refl (digit_within (byte_at s (at + 1 + 1)) c.0) (rw p f)))
 
 letters_fit : (a b : ℕ) (f g : Fields) (s : List ℕ) (at to : ℕ) (cs : List (List Range)) (e : Bool) → 0 < a → 0 < b
-    → read_letters a b f s at ≡ Here g to → fits cs e (drop to s) ≡ true → fits (just a ∷ just b ∷ cs) e (drop at s) ≡ true
+    → read_letters a b f s at ≡ Some (g, to) → fits cs e (drop to s) ≡ true → fits (just a ∷ just b ∷ cs) e (drop at s) ≡ true
 unfolding read_letters
 letters_fit a b f g s at to cs e p q r h =
     let t = got_if_law (eqb (byte_at s at) a && eqb (byte_at s (at + 1)) b) f g (at + 2) to r in
@@ -245,7 +244,7 @@ letters_fit a b f g s at to cs e p q r h =
     just_fits a (just b ∷ cs) e s at p both.0 (just_fits b cs e s (at + 1) q both.1 (rw n h))
 
 three_fit : (a b c : ℕ) (f g : Fields) (s : List ℕ) (at to : ℕ) (cs : List (List Range)) (e : Bool) → 0 < a → 0 < b → 0 < c
-    → read_three a b c f s at ≡ Here g to → fits cs e (drop to s) ≡ true → fits (just a ∷ just b ∷ just c ∷ cs) e (drop at s) ≡ true
+    → read_three a b c f s at ≡ Some (g, to) → fits cs e (drop to s) ≡ true → fits (just a ∷ just b ∷ just c ∷ cs) e (drop at s) ≡ true
 unfolding read_three
 three_fit a b c f g s at to cs e p q o r h =
     let x = eqb (byte_at s at) a in
@@ -260,7 +259,7 @@ three_fit a b c f g s at to cs e p q o r h =
     (just_fits b (just c ∷ cs) e s (at + 1) q both.1 (just_fits c cs e s (at + 1 + 1) o (rw m at last.1) (rw n h)))
 
 -- A field that is read fits its bytes; what fits after it does not matter where a number may go on.
-pub field_fits : (k : Field) (f g : Fields) (s : List ℕ) (at to : ℕ) (cs : List (List Range)) (e : Bool) → read_field k f s at ≡ Here g to
+pub field_fits : (k : Field) (f g : Fields) (s : List ℕ) (at to : ℕ) (cs : List (List Range)) (e : Bool) → read_field k f s at ≡ Some (g, to)
     → fits cs e (drop to s) ≡ true → fits (classes k ++ cond (goes_on k) [] cs) (cond (goes_on k) false e) (drop at s) ≡ true
 unfolding read_channel read_signed read_digit read_question read_letters read_three read_four read_zero_three here place
 field_fits Channel f g s at to cs e r h =
@@ -272,12 +271,12 @@ field_fits Signed f g s at to cs e r h = plus (eqb (byte_at s at) (code "+")) re
     begins w = byte_fits sign_or_digit [] false s at refl w refl
 
     plus : (t : Bool) → eqb (byte_at s at) (code "+") ≡ t
-        → cond t (read_number false f s (at + 1)) (cond (eqb (byte_at s at) (code "-")) (read_number true f s (at + 1)) (read_number false f s at)) ≡ Here g to
+        → cond t (read_number false f s (at + 1)) (cond (eqb (byte_at s at) (code "-")) (read_number true f s (at + 1)) (read_number false f s at)) ≡ Some (g, to)
         → fits (sign_or_digit ∷ []) false (drop at s) ≡ true
     plus true e r = begins (rw (eqb-true (byte_at s at) (code "+") e))
     plus false e r = minus (eqb (byte_at s at) (code "-")) refl r
       where
-        minus : (t : Bool) → eqb (byte_at s at) (code "-") ≡ t → cond t (read_number true f s (at + 1)) (read_number false f s at) ≡ Here g to
+        minus : (t : Bool) → eqb (byte_at s at) (code "-") ≡ t → cond t (read_number true f s (at + 1)) (read_number false f s at) ≡ Some (g, to)
             → fits (sign_or_digit ∷ []) false (drop at s) ≡ true
         minus true e r = begins (rw (eqb-true (byte_at s at) (code "-") e))
         minus false e r = begins (rw (number_first _ f g s at to r))
@@ -307,16 +306,16 @@ field_fits End f g s at to cs e r h = rw (ap place r) h
 field_fits Never f g s at to cs e r h = absurd (false≢true (ap here r))
 
 -- Fields that are read to the end of a line fit their stencil.
-pub fields_fit : (ks : List Field) (f g : Fields) (s : List ℕ) (at : ℕ) → read_fields ks f s at ≡ Here g (length s) → fits (stencil ks) (ends ks) (drop at s) ≡ true
+pub fields_fit : (ks : List Field) (f g : Fields) (s : List ℕ) (at : ℕ) → read_fields ks f s at ≡ Some (g, (length s)) → fits (stencil ks) (ends ks) (drop at s) ≡ true
 unfolding read_fields here place
 fields_fit [] f g s at e = rw (ap place e, drop-length s)
 fields_fit (k ∷ ks) f g s at e = go (read_field k f s at) refl e (λ h to. fields_fit ks h g s to)
   where
-    go : (t : Got) → read_field k f s at ≡ t → onward t (λ h to. read_fields ks h s to) ≡ Here g (length s)
-        → ((h : Fields) (to : ℕ) → read_fields ks h s to ≡ Here g (length s) → fits (stencil ks) (ends ks) (drop to s) ≡ true)
+    go : (t : Got) → read_field k f s at ≡ t → onward t (λ h to. read_fields ks h s to) ≡ Some (g, (length s))
+        → ((h : Fields) (to : ℕ) → read_fields ks h s to ≡ Some (g, (length s)) → fits (stencil ks) (ends ks) (drop to s) ≡ true)
         → fits (stencil (k ∷ ks)) (ends (k ∷ ks)) (drop at s) ≡ true
-    go (Here h to) r e later = field_fits k f h s at to (stencil ks) (ends ks) r (later h to e)
-    go Absent r e later = absurd (false≢true (ap here e))
+    go (Some (h, to)) r e later = field_fits k f h s at to (stencil ks) (ends ks) r (later h to e)
+    go None r e later = absurd (false≢true (ap here e))
 
 -- the bytes of a word
 abbrev pub letters : List ℕ → List (List Range)

@@ -15,11 +15,9 @@ use Rattle.line.specs.declared.Order.TheVariants.{Go, Stop, StopAll, ChangeSpeed
 use Rattle.line.specs.declared.HeadOrder.TheVariants.{Mode, AllReply, ClearErrors, ClearError, Pause}
 use Rattle.line.specs.declared.HeadQuestion.{HeadQuestion}
 use Rattle.line.specs.declared.HeadQuestion.TheVariants.{AskAllReply, AskFlags, AskError, AskPause, AskBusy, AskFree}
-use Rattle.line.specs.declared.Parsed.{Parsed}
-use Rattle.line.specs.declared.Parsed.TheVariants.{Is, Nothing}
+use Rattle.std.specs.Prelude.{Option, Some, None}
 use Rattle.line.specs.declared.Field.{Field}
-use Rattle.line.specs.declared.Got.{Got}
-use Rattle.line.specs.declared.Got.TheVariants.{Here, Absent}
+use Rattle.line.specs.Shapes.{Got}
 use Rattle.line.specs.Shapes.{alone, x, x±d, xd, x_dyyy0yyy, x_abcd, x?, e, EN, DS, ON, OFF, no_fields, read_fields}
 
 -- a form: a word, the fields after it, and the order that it is
@@ -143,19 +141,19 @@ request_rows =
     ∷ []
 
 -- a line is read whole: nothing follows the fields
-abbrev pub complete : (Fields → Order) → List ℕ → Got → Parsed
-complete o s (Here f at) = cond (eqb at (length s)) (Is (o f)) Nothing
-complete o s Absent = Nothing
+abbrev pub complete : (Fields → Order) → List ℕ → Got → Option Order
+complete o s (Some (f, at)) = cond (eqb at (length s)) (Some (o f)) None
+complete o s None = None
 
 -- the order that a row makes of the fields from a place on
-unfoldable pub fields_as_row : Row → List ℕ → ℕ → Parsed
+unfoldable pub fields_as_row : Row → List ℕ → ℕ → Option Order
 fields_as_row r s at = complete r.order s (read_fields r.fields no_fields s at)
 
 -- a line has a row's form when it begins with the word, the fields follow, and nothing follows them
-unfoldable pub as_row : Row → List ℕ → Parsed
+unfoldable pub as_row : Row → List ℕ → Option Order
 as_row r s =
     let n = length r.word in
-    cond (same (take n s) r.word) (fields_as_row r s n) Nothing
+    cond (same (take n s) r.word) (fields_as_row r s n) None
 
 -- all the forms: those of document 01, and those of the requests
 unfoldable pub forms : List Row
@@ -167,18 +165,18 @@ those p [] = []
 those p (r ∷ rs) = cond (p r) (r ∷ those p rs) (those p rs)
 
 -- what was found, or else what is found later
-abbrev pub first_of : Parsed → Parsed → Parsed
-first_of (Is o) later = Is o
-first_of Nothing later = later
+abbrev pub first_of : Option Order → Option Order → Option Order
+first_of (Some o) later = Some o
+first_of None later = later
 
 -- the order by the first row whose form the line has
-unfoldable pub first_form : List Row → List ℕ → Parsed
-first_form [] s = Nothing
+unfoldable pub first_form : List Row → List ℕ → Option Order
+first_form [] s = None
 first_form (r ∷ rs) s = first_of (as_row r s) (first_form rs s)
 
 -- "0 to 80 bytes, without CR LF; longer is 1. Capitals only."
-unfoldable pub order_of : List ℕ → Parsed
-order_of s = cond (leb (length s) 80) (first_form forms s) Nothing
+unfoldable pub order_of : List ℕ → Option Order
+order_of s = cond (leb (length s) 80) (first_form forms s) None
 
 -- a card has a question of the head; 02 §7, of `STQ?`: "On the sixteen card it is 1"
 unfoldable pub asks_on : ℕ → HeadQuestion → Bool
@@ -201,6 +199,6 @@ has_form card (AskHead q) = asks_on card q
 has_form card (ForHead o) = true
 
 -- what a line is on a card: a line whose form the card has not is nothing, as one that has none of the forms
-abbrev pub on_card : ℕ → Parsed → Parsed
-on_card card (Is o) = cond (has_form card o) (Is o) Nothing
-on_card card Nothing = Nothing
+abbrev pub on_card : ℕ → Option Order → Option Order
+on_card card (Some o) = cond (has_form card o) (Some o) None
+on_card card None = None

@@ -11,8 +11,7 @@ use Rattle.line.specs.declared.Order.{Order}
 use Rattle.line.specs.declared.Order.TheVariants.{Go, Stop, StopAll, ChangeSpeed, Set, Ask, AskHead, ForHead}
 use Rattle.line.specs.declared.HeadOrder.{HeadOrder}
 use Rattle.line.specs.declared.HeadOrder.TheVariants.{Mode, AllReply, ClearErrors, ClearError, Pause}
-use Rattle.line.specs.declared.Parsed.{Parsed}
-use Rattle.line.specs.declared.Parsed.TheVariants.{Is, Nothing}
+use Rattle.std.specs.Prelude.{Option, Some, None}
 use Rattle.line.specs.Forms.{ssend, esend}
 
 -- one of the sixteen channels
@@ -60,6 +59,6 @@ order_made (AskHead q) = true
 order_made (ForHead h) = head_made h
 
 -- what a line is: such an order, or nothing
-abbrev pub parsed_made : Parsed → Bool
-parsed_made (Is o) = order_made o
-parsed_made Nothing = true
+abbrev pub parsed_made : Option Order → Bool
+parsed_made (Some o) = order_made o
+parsed_made None = true

@@ -1,21 +1,22 @@
 -- Document 01, "Lines": the fields that a line is made of, and the shapes that they make. A field is read at a place of the
 -- line and gives the place after it: "The line in hand and the place reached travel together".
 use Prim.Native.Char.{code}
-use Rattle.std.specs.Prelude.{ℕ, ◌+◌, List, [], ◌∷◌, Bool, true, false, ◌&&◌, cond, drop, get_or, leb, eqb}
+use Rattle.std.specs.Prelude.{ℕ, ◌+◌, List, [], ◌∷◌, Bool, true, false, ◌&&◌, cond, drop, get_or, leb, eqb, Option, Some, None}
 use Rattle.text.specs.Text.{is_digit, is_hex, hex_value, digit_value, digits_at_front, number_at_front}
-use Rattle.text.specs.declared.decimal.Number.{Number}
-use Rattle.text.specs.declared.decimal.Number.TheVariants.{Nothing, Read}
+use Rattle.text.specs.declared.decimal.Digits.{Digits}
 use Rattle.line.specs.declared.Four.{Four}
 use Rattle.line.specs.declared.Fields.{Fields}
 use Rattle.line.specs.declared.Field.{Field}
 use Rattle.line.specs.declared.Field.TheVariants.{Channel, Signed, Unsigned, Digit, Question, FourDigits, ZeroThree, Enable, Disable, On, Off, End, Never}
-use Rattle.line.specs.declared.Got.{Got}
-use Rattle.line.specs.declared.Got.TheVariants.{Here, Absent}
+
+-- what reading a field gives: the fields so far and the place after it, or that it is not there
+abbrev pub Got : Type 0
+Got = Option (Fields × ℕ)
 
 -- a field that is there if a test holds
 abbrev pub got_if : Bool → Fields → ℕ → Got
-got_if true f at = Here f at
-got_if false f at = Absent
+got_if true f at = Some (f, at)
+got_if false f at = None
 
 -- What follows a word, each shape named as document 01 writes it. Nothing, as in `ASSTP`:
 abbrev pub alone : List Field
@@ -104,9 +105,9 @@ unfoldable pub read_channel : Fields → List ℕ → ℕ → Got
 read_channel f s at = got_if (is_hex (byte_at s at)) (with_channel f (hex_value (byte_at s at))) (at + 1)
 
 -- a number that was found from a place on
-abbrev pub numbered : Bool → Fields → ℕ → Number → Got
-numbered minus f at (Read n count) = Here (with_written f minus n) (at + count)
-numbered minus f at Nothing = Absent
+abbrev pub numbered : Bool → Fields → ℕ → Option Digits → Got
+numbered minus f at (Some d) = Some (with_written f minus d.value, at + d.count)
+numbered minus f at None = None
 
 -- "d: 1 to 10 digits"
 unfoldable pub read_number : Bool → Fields → List ℕ → ℕ → Got
@@ -160,15 +161,15 @@ read_field Enable f s at = read_letters (code "E") (code "N") f s at
 read_field Disable f s at = read_letters (code "D") (code "S") f s at
 read_field On f s at = read_letters (code "O") (code "N") f s at
 read_field Off f s at = read_three (code "O") (code "F") (code "F") f s at
-read_field End f s at = Here f at
-read_field Never f s at = Absent
+read_field End f s at = Some (f, at)
+read_field Never f s at = None
 
 -- what comes next, where the field before it is there
 abbrev pub onward : Got → (Fields → ℕ → Got) → Got
-onward (Here f at) next = next f at
-onward Absent next = Absent
+onward (Some (f, at)) next = next f at
+onward None next = None
 
 -- the fields of a shape, one after the other
 unfoldable pub read_fields : List Field → Fields → List ℕ → ℕ → Got
-read_fields [] f s at = Here f at
+read_fields [] f s at = Some (f, at)
 read_fields (k ∷ ks) f s at = onward (read_field k f s at) (λ g to. read_fields ks g s to)

@@ -1,23 +1,14 @@
-// The fields of a line, each read at a place of it. A place may lie anywhere: where the line has ended stands the byte 0,
-// which no field has, so the place after a field is counted only once a byte is known to stand there.
+// The fields of a line, each read at a place of it. A place may lie anywhere: where the line has ended stands no field.
 
-ghost use Rattle.std.specs.Prelude.{◌≡◌, [], ◌∷◌, ◌+◌, ◌<◌, ◌≤◌, length};
-ghost use Rattle.text.specs.Text.{is_hex, hex_value, digit_value};
-ghost use Rattle.line.specs.Shapes.{no_fields, with_channel, with_written, with_first, with_second, byte_at, four_of};
-ghost use Rattle.line.specs.Shapes.{read_channel, read_number, read_signed, read_digit, read_question, read_letters, read_three};
-ghost use Rattle.line.specs.Shapes.{read_four, read_zero_three, read_fields};
+ghost use Rattle.std.specs.Prelude.{◌≡◌, [], ◌∷◌, ◌+◌, ◌≤◌, length, take, drop};
+ghost use Rattle.text.specs.Text.{same, is_hex, hex_value};
+ghost use Rattle.line.specs.Shapes.{got_if, no_fields, four_of, read_channel, read_number, read_signed, read_digit, read_four};
+ghost use Rattle.line.specs.Shapes.{read_zero_three, read_fields};
 ghost use Rattle.line.specs.Tails.{after_x, fields_of};
 ghost use Rattle.line.specs.declared.Field.TheVariants.{Channel, FourDigits, ZeroThree};
 
-use crate::{AfterX, Fields, Four, Got, Tail, Written};
-use text::decimal::{Number, digit_value, digits_at, is_digit, number_at};
-
-// The byte at a place, 0 where the line has ended.
-fn byte_or_zero(s: &[u8], at: usize) -> u8
-    ensures { result ≡ byte_at s.now at }
-{
-    if at < s.len() { s[at] } else { 0 }
-}
+use crate::{AfterX, Fields, Four, Tail, Written};
+use text::decimal::{digit_value, digits_at, is_digit, number_at};
 
 // Whether a byte is one of 0-9, A-F.
 pub fn is_hex(b: u8) -> bool
@@ -26,74 +17,30 @@ pub fn is_hex(b: u8) -> bool
     is_digit(b) | ((b'A' <= b) & (b <= b'F'))
 }
 
-// A byte below the digits is worth 0, as decimal::digit_value has it.
-fn digit_of(b: u8) -> u8
-    ensures { result ≡ digit_value b }
-{
-    if b < b'0' { 0 } else { b - b'0' }
-}
-
-// A byte below A that is no digit is worth 10, so that every byte has a value.
+// A byte below the digits is worth 0, as decimal::digit_value has it, and one below A that is no digit 10, so that every byte has a value.
 pub fn hex_value(b: u8) -> u8
     ensures { result ≡ hex_value b }
 {
     if is_digit(b) {
-        digit_of(b)
-    } else if b < b'A' {
-        10
+        b.saturating_sub(b'0')
     } else {
-        10 + (b - b'A')
+        10 + b.saturating_sub(b'A')
     }
 }
 
-// The fields with one of them taken anew.
-fn with_channel(f: Fields, n: u8) -> Fields
-    ensures { result ≡ with_channel f n }
-{
-    let mut g = f;
-    g.channel = n;
-    g
-}
+// A field is there: the fields with it, and the place after it.
+pub type Got = Option<(Fields, usize)>;
 
-fn with_written(f: Fields, minus: bool, n: u64) -> Fields
-    ensures { result ≡ with_written f minus n }
-{
-    let written = Written {
-        minus: minus,
-        digits: n,
-    };
-    let mut g = f;
-    g.written = written;
-    g
-}
-
-fn with_first(f: Fields, q: Four) -> Fields
-    ensures { result ≡ with_first f q }
-{
-    let mut g = f;
-    g.first = q;
-    g
-}
-
-fn with_second(f: Fields, q: Four) -> Fields
-    ensures { result ≡ with_second f q }
-{
-    let mut g = f;
-    g.second = q;
-    g
-}
-
-// x: one of 0-9, A-F. Most are digits, which need no second test.
+// x: one of 0-9, A-F.
 fn channel_at(s: &[u8], at: usize, f: Fields) -> Got
     ensures { result ≡ read_channel f s.now at }
 {
-    let b = byte_or_zero(s, at);
-    if is_digit(b) {
-        Got::Here(with_channel(f, digit_of(b)), at + 1)
-    } else if is_hex(b) {
-        Got::Here(with_channel(f, hex_value(b)), at + 1)
+    let b = *s.get(at)?;
+    if is_hex(b) {
+        let channel = hex_value(b);
+        Some((Fields { channel, ..f }, at + 1))
     } else {
-        Got::Absent
+        None
     }
 }
 
@@ -101,19 +48,21 @@ fn channel_at(s: &[u8], at: usize, f: Fields) -> Got
 fn number_from(s: &[u8], at: usize, minus: bool, f: Fields) -> Got
     ensures { result ≡ read_number minus f s.now at }
 {
-    match number_at(s, at) {
-        Number::Read { value, count } => Got::Here(with_written(f, minus, value), at + count),
-        Number::Nothing => Got::Absent,
-    }
+    let n = number_at(s, at)?;
+    let written = Written {
+        minus,
+        digits: n.value,
+    };
+    Some((Fields { written, ..f }, at + n.count))
 }
 
 // ±d: a sign, then 1 to 10 digits. A bare d means plus.
 fn signed_at(s: &[u8], at: usize, f: Fields) -> Got
     ensures { result ≡ read_signed f s.now at }
 {
-    let sign = byte_or_zero(s, at);
-    let minus = sign == b'-';
-    if minus | (sign == b'+') {
+    let b = *s.get(at)?;
+    let minus = b == b'-';
+    if minus | (b == b'+') {
         number_from(s, at + 1, minus, f)
     } else {
         number_from(s, at, false, f)
@@ -124,58 +73,27 @@ fn signed_at(s: &[u8], at: usize, f: Fields) -> Got
 fn digit_at(s: &[u8], at: usize, f: Fields) -> Got
     ensures { result ≡ read_digit f s.now at }
 {
-    let b = byte_or_zero(s, at);
+    let b = *s.get(at)?;
     if is_digit(b) {
-        Got::Here(with_written(f, false, digit_value(b)), at + 1)
+        let written = Written {
+            minus: false,
+            digits: digit_value(b),
+        };
+        Some((Fields { written, ..f }, at + 1))
     } else {
-        Got::Absent
+        None
     }
 }
 
-// The ? of STSx?.
-fn question_at(s: &[u8], at: usize, f: Fields) -> Got
-    ensures { result ≡ read_question f s.now at }
+// A text of letters, as EN, or the ? of STSx?.
+fn text_at(s: &[u8], at: usize, text: &[u8], f: Fields) -> Got
+    requires { 1 ≤ length text.now }
+    ensures { result ≡ got_if (same (take (length text.now) (drop at s.now)) text.now) f (at + length text.now) }
 {
-    if byte_or_zero(s, at) == b'?' {
-        Got::Here(f, at + 1)
+    if at <= s.len() && s[at..].starts_with(text) {
+        Some((f, at + text.len()))
     } else {
-        Got::Absent
-    }
-}
-
-// Two letters. Neither is 0, which stands past the end of the line, where no place after them could be counted.
-fn letters_at(s: &[u8], at: usize, a: u8, b: u8, f: Fields) -> Got
-    requires { (0 < a) × (0 < b) }
-    ensures { result ≡ read_letters a b f s.now at }
-{
-    if byte_or_zero(s, at) == a {
-        if byte_or_zero(s, at + 1) == b {
-            Got::Here(f, at + 2)
-        } else {
-            Got::Absent
-        }
-    } else {
-        Got::Absent
-    }
-}
-
-// Three letters. None is 0 either.
-fn three_letters_at(s: &[u8], at: usize, a: u8, b: u8, c: u8, f: Fields) -> Got
-    requires { (0 < a) × (0 < b) × (0 < c) }
-    ensures { result ≡ read_three a b c f s.now at }
-{
-    if byte_or_zero(s, at) == a {
-        if byte_or_zero(s, at + 1) == b {
-            if byte_or_zero(s, at + 2) == c {
-                Got::Here(f, at + 3)
-            } else {
-                Got::Absent
-            }
-        } else {
-            Got::Absent
-        }
-    } else {
-        Got::Absent
+        None
     }
 }
 
@@ -185,10 +103,10 @@ fn four_digits(s: &[u8], at: usize) -> Four
     ensures { result ≡ four_of s.now at }
 {
     Four {
-        a: digit_of(s[at]),
-        b: digit_of(s[at + 1]),
-        c: digit_of(s[at + 2]),
-        d: digit_of(s[at + 3]),
+        a: s[at].saturating_sub(b'0'),
+        b: s[at + 1].saturating_sub(b'0'),
+        c: s[at + 2].saturating_sub(b'0'),
+        d: s[at + 3].saturating_sub(b'0'),
     }
 }
 
@@ -197,9 +115,10 @@ fn four_at(s: &[u8], at: usize, f: Fields) -> Got
     ensures { result ≡ read_four f s.now at }
 {
     if 4 <= digits_at(s, at) {
-        Got::Here(with_first(f, four_digits(s, at)), at + 4)
+        let first = four_digits(s, at);
+        Some((Fields { first, ..f }, at + 4))
     } else {
-        Got::Absent
+        None
     }
 }
 
@@ -207,14 +126,11 @@ fn four_at(s: &[u8], at: usize, f: Fields) -> Got
 fn zero_three_at(s: &[u8], at: usize, f: Fields) -> Got
     ensures { result ≡ read_zero_three f s.now at }
 {
-    if 4 <= digits_at(s, at) {
-        if byte_or_zero(s, at) == b'0' {
-            Got::Here(with_second(f, four_digits(s, at)), at + 4)
-        } else {
-            Got::Absent
-        }
+    if 4 <= digits_at(s, at) && s[at] == b'0' {
+        let second = four_digits(s, at);
+        Some((Fields { second, ..f }, at + 4))
     } else {
-        Got::Absent
+        None
     }
 }
 
@@ -222,10 +138,8 @@ fn zero_three_at(s: &[u8], at: usize, f: Fields) -> Got
 fn switches_at(s: &[u8], at: usize, f: Fields) -> Got
     ensures { result ≡ read_fields (FourDigits ∷ ZeroThree ∷ []) f s.now at }
 {
-    match four_at(s, at, f) {
-        Got::Here(g, to) => zero_three_at(s, to, g),
-        Got::Absent => Got::Absent,
-    }
+    let (g, to) = four_at(s, at, f)?;
+    zero_three_at(s, to, g)
 }
 
 // What follows x.
@@ -233,12 +147,12 @@ fn after_x_at(s: &[u8], at: usize, after: AfterX, f: Fields) -> Got
     ensures { result ≡ read_fields (after_x after) f s.now at }
 {
     match after {
-        AfterX::OnlyX => Got::Here(f, at),
+        AfterX::OnlyX => Some((f, at)),
         AfterX::XSigned => signed_at(s, at, f),
         AfterX::XNumber => number_from(s, at, false, f),
         AfterX::XSwitches => switches_at(s, at, f),
         AfterX::XDigits => four_at(s, at, f),
-        AfterX::XQuestion => question_at(s, at, f),
+        AfterX::XQuestion => text_at(s, at, b"?", f),
     }
 }
 
@@ -246,10 +160,8 @@ fn after_x_at(s: &[u8], at: usize, after: AfterX, f: Fields) -> Got
 fn x_at(s: &[u8], at: usize, after: AfterX, f: Fields) -> Got
     ensures { result ≡ read_fields (Channel ∷ after_x after) f s.now at }
 {
-    match channel_at(s, at, f) {
-        Got::Here(g, to) => after_x_at(s, to, after, g),
-        Got::Absent => Got::Absent,
-    }
+    let (g, to) = channel_at(s, at, f)?;
+    after_x_at(s, to, after, g)
 }
 
 fn no_fields() -> Fields
@@ -267,25 +179,24 @@ fn no_fields() -> Fields
     };
     Fields {
         channel: 0,
-        written: written,
+        written,
         first: none,
         second: none,
     }
 }
 
-// What follows a word, field after field.
-pub fn fields_at(s: &[u8], at: usize, tail: Tail) -> Got
+// What follows a word, field after field; nothing does where no line has the form.
+pub fn fields_at(s: &[u8], at: usize, tail: Option<Tail>) -> Got
     ensures { result ≡ read_fields (fields_of tail) no_fields s.now at }
 {
     let f = no_fields();
-    match tail {
-        Tail::Alone => Got::Here(f, at),
+    match tail? {
+        Tail::Alone => Some((f, at)),
         Tail::AtX(after) => x_at(s, at, after, f),
         Tail::OneDigit => digit_at(s, at, f),
-        Tail::Enabling => letters_at(s, at, b'E', b'N', f),
-        Tail::Disabling => letters_at(s, at, b'D', b'S', f),
-        Tail::TurnOn => letters_at(s, at, b'O', b'N', f),
-        Tail::TurnOff => three_letters_at(s, at, b'O', b'F', b'F', f),
-        Tail::NoLine => Got::Absent,
+        Tail::Enabling => text_at(s, at, b"EN", f),
+        Tail::Disabling => text_at(s, at, b"DS", f),
+        Tail::TurnOn => text_at(s, at, b"ON", f),
+        Tail::TurnOff => text_at(s, at, b"OFF", f),
     }
 }

@@ -60,8 +60,7 @@ pub enum Field {
     Never,
 }
 
-// What follows a word, as the code reads it: the fields of each are in specs/Tails.antt. `NoLine` stands where no line has the
-// form.
+// What follows a word, as the code reads it: the fields of each are in specs/Tails.antt.
 #[derive(Clone, Copy)]
 pub enum Tail {
     // nothing, as in ASSTP
@@ -78,7 +77,6 @@ pub enum Tail {
     TurnOn,
     // OFF
     TurnOff,
-    NoLine,
 }
 
 // What follows x.
@@ -96,13 +94,6 @@ pub enum AfterX {
     XDigits,
     // the ? of STSx?
     XQuestion,
-}
-
-// What reading a field gives: the fields so far and the place after it, or that it is not there.
-#[derive(Clone, Copy)]
-pub enum Got {
-    Here(Fields, usize),
-    Absent,
 }
 
 // Starts. A direction is 1 for CW (P) and 2 for CCW (N).
@@ -206,11 +197,4 @@ pub enum Order {
     Ask(u8, Question),
     AskHead(HeadQuestion),
     ForHead(HeadOrder),
-}
-
-// What a line is: an order, or nothing that has one of the forms.
-#[derive(Clone, Copy)]
-pub enum Parsed {
-    Is(Order),
-    Nothing,
 }

@@ -1,6 +1,6 @@
 -- `line::field_reading::after_x_at` meets its contract. Assumes nothing.
 use Rattle.line.specs.Shapes.{read_fields}
-use Rattle.line.proofs.ReadLaws.{last_field}
+use Rattle.line.proofs.ReadLaws.{last_field, question_read}
 use Rattle.line.proofs.field_reading.after_x_at.Goals as goal
 
 pub returns-in-OnlyX : goal.returns-in-OnlyX
@@ -24,4 +24,4 @@ returns-in-XDigits c = rw (c.in-XDigits.is, c.four_at.ensures) (last_field _)
 
 pub returns-in-XQuestion : goal.returns-in-XQuestion
 unfolding read_fields
-returns-in-XQuestion c = rw (c.in-XQuestion.is, c.question_at.ensures) (last_field _)
+returns-in-XQuestion c = rw (c.in-XQuestion.is, c.text_at.ensures, question_read c.args.f c.args.s.now c.args.at) (last_field _)

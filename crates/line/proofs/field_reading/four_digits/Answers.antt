@@ -2,4 +2,4 @@
 use Rattle.line.proofs.field_reading.four_digits.Goals as goal
 
 pub returns : goal.returns
-returns c = rw (c.digit_of-4.ensures, c.digit_of-3.ensures, c.digit_of-2.ensures, c.digit_of.ensures)
+returns c = rw (c.saturating_sub-4.ensures, c.saturating_sub-3.ensures, c.saturating_sub-2.ensures, c.saturating_sub.ensures)

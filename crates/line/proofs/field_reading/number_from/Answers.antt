@@ -1,19 +1,25 @@
 -- `line::field_reading::number_from` meets its contract. Assumes nothing.
-use native.Mathlib.Omega.{arith}
-use mathlib.Core.Path.{sym, ◌∙◌}
+use Rattle.std.proofs.Common.{arith, rules, ◌≡◌, drop, Some, None}
+use Rattle.text.specs.Text.{number_at_front}
 use Rattle.line.proofs.ReadLaws.{number_there}
 use Rattle.line.specs.Shapes.{read_number}
 use Rattle.line.proofs.field_reading.number_from.Goals as goal
 
+pub returns-in_err-n : goal.returns-in_err-n
+unfolding read_number
+returns-in_err-n c =
+    let none : c.from_residual.result ≡ None = search rules in
+    let n : c.number_at.result ≡ None = search rules in
+    rw (none, ← c.number_at.ensures, n)
+
 pub overflow_add-result : goal.overflow_add-result
 overflow_add-result c =
     let a = c.args in
-    omega (arith, number_there a.s.now a.at c.in-Read.value c.in-Read.count (sym c.number_at.ensures ∙ c.in-Read.is))
+    let n : number_at_front (drop a.at a.s.now) ≡ Some c.in_ok-n.n = search rules in
+    omega (arith, number_there a.s.now a.at c.in_ok-n.n n)
 
-pub returns-in-Read : goal.returns-in-Read
+pub returns : goal.returns
 unfolding read_number
-returns-in-Read c = rw (← c.number_at.ensures, c.in-Read.is, c.with_written.ensures)
-
-pub returns-in-Nothing : goal.returns-in-Nothing
-unfolding read_number
-returns-in-Nothing c = rw (← c.number_at.ensures, c.in-Nothing.is)
+returns c =
+    let n : c.number_at.result ≡ Some c.in_ok-n.n = search rules in
+    rw (← c.number_at.ensures, n)

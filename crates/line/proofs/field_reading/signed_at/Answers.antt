@@ -1,14 +1,12 @@
 -- `line::field_reading::signed_at` meets its contract. Assumes nothing.
+use Rattle.std.proofs.Common.{arith, rules, refl, ◌≡◌, ◌≤◌, ℕ, ◌+◌, List, Bool, true, false, ◌||◌, length, None}
 use Prim.Native.Char.{code}
-use mathlib.Core.Path.{◌≡◌, refl}
-use mathlib.Core.List.{List}
-use mathlib.Core.Bool.{Bool, true, false, ◌||◌, cond}
-use Prim.Native.Nat.{ℕ, ◌+◌, ◌<◌}
+use mathlib.Core.Bool.{cond}
 use lib.Dec.{eqb}
-use lib.ListN.{length}
-use native.Mathlib.Omega.{arith}
+use lib.ListN.{drop_of_length-le}
 use borrow.Author.Tests.{eqb-true}
-use Rattle.line.proofs.ReadLaws.{byte_there}
+use Rattle.text.specs.Text.{digits_at_front, number_at_front}
+use Rattle.line.proofs.ReadLaws.{byte_past}
 use Rattle.line.specs.declared.Fields.{Fields}
 use Rattle.line.specs.Shapes.{byte_at, read_number, read_signed}
 use Rattle.line.proofs.field_reading.signed_at.Goals as goal
@@ -27,30 +25,22 @@ signed f s at t h = go (eqb (byte_at s at) (code "-")) (eqb (byte_at s at) (code
     go false true e i t h = rw (← h)
     go false false e i t h = rw (← h)
 
--- 0, which stands past the end of a line, is no sign.
-sign_above : (b : ℕ) → (eqb b (code "-") || eqb b (code "+")) ≡ true → 0 < b
-sign_above b h = go (eqb b (code "-")) refl h
-  where
-    go : (m : Bool) → eqb b (code "-") ≡ m → (m || eqb b (code "+")) ≡ true → 0 < b
-    go true e h = omega (arith, eqb-true b (code "-") e)
-    go false e h = omega (arith, eqb-true b (code "+") h)
-
-pub overflow_add-at : goal.overflow_add-at
-overflow_add-at c =
+pub returns-in_err-b : goal.returns-in_err-b
+unfolding read_signed read_number number_at_front digits_at_front
+returns-in_err-b c =
     let a = c.args in
-    let b = c.byte_or_zero-sign in
-    let some : 0 < b.result = sign_above b.result c.if-minus-sign.true in
-    let there : a.at < length a.s.now = byte_there a.s.now a.at (omega (arith, b.ensures, some)) in
-    omega arith
+    let none : c.from_residual.result ≡ None = search rules in
+    let past : length a.s.now ≤ a.at = search rules in
+    rw (none, byte_past a.s.now a.at past, drop_of_length-le a.s.now {i = a.at} past)
 
-pub returns-then-minus-sign : goal.returns-then-minus-sign
-returns-then-minus-sign c =
+pub returns-then-minus-b : goal.returns-then-minus-b
+returns-then-minus-b c =
     let a = c.args in
-    let b = c.byte_or_zero-sign in
-    rw (c.number_from.ensures, b.ensures) (signed a.f a.s.now a.at true (rw b.ensures at c.if-minus-sign.true))
+    let b : byte_at a.s.now a.at ≡ c.in_ok-b.field-0.now = search rules in
+    rw (c.number_from.ensures, ← b) (signed a.f a.s.now a.at true (rw b c.if-minus-b.true))
 
-pub returns-else-minus-sign : goal.returns-else-minus-sign
-returns-else-minus-sign c =
+pub returns-else-minus-b : goal.returns-else-minus-b
+returns-else-minus-b c =
     let a = c.args in
-    let b = c.byte_or_zero-sign in
-    rw c.number_from-else-minus-sign.ensures (signed a.f a.s.now a.at false (rw b.ensures at c.if-minus-sign.false))
+    let b : byte_at a.s.now a.at ≡ c.in_ok-b.field-0.now = search rules in
+    rw c.number_from-else-minus-b.ensures (signed a.f a.s.now a.at false (rw b c.if-minus-b.false))

@@ -1,12 +1,17 @@
 -- `line::field_reading::x_at` meets its contract. Assumes nothing.
+use Rattle.std.proofs.Common.{rules, ◌≡◌, Some, None}
 use Rattle.line.specs.Shapes.{read_fields}
 use Rattle.line.proofs.field_reading.x_at.Goals as goal
 
-pub returns-in-Here : goal.returns-in-Here
+pub returns-in_err-g : goal.returns-in_err-g
 unfolding read_fields
-returns-in-Here c =
-    rw (c.after_x_at.ensures, ← c.channel_at.ensures, c.in-Here.is)
+returns-in_err-g c =
+    let none : c.from_residual.result ≡ None = search rules in
+    let absent : c.channel_at.result ≡ None = search rules in
+    rw (none, ← c.channel_at.ensures, absent)
 
-pub returns-in-Absent : goal.returns-in-Absent
+pub returns : goal.returns
 unfolding read_fields
-returns-in-Absent c = rw (← c.channel_at.ensures, c.in-Absent.is)
+returns c =
+    let there : c.channel_at.result ≡ Some (c.in_ok-g.g, c.in_ok-g.to) = search rules in
+    rw (c.after_x_at.ensures, ← c.channel_at.ensures, there)
