@@ -1,4 +1,5 @@
 -- The longest word finds each form and nothing else: `order_at` after `word_at` is `order_of`. Assumes nothing.
+use Rattle.std.specs.Prelude.{Option, Some, None}
 use mathlib.Core.Path.{◌≡◌, refl, sym, ap, ◌∙◌}
 use mathlib.Core.List.{List, [], ◌∷◌, map, append-nil, head-eq_of_cons-eq, tail-eq_of_cons-eq}
 use mathlib.Core.Bool.{Bool, true, false, not, ◌||◌, cond, false≢true}
@@ -11,18 +12,15 @@ use lib.Dec.{leb}
 use borrow.Author.Tests.{leb-true, leb-false}
 use Rattle.text.specs.Text.{same}
 use Rattle.line.specs.declared.Order.{Order}
-use Rattle.line.specs.declared.Got.{Got}
-use Rattle.line.specs.declared.Got.TheVariants.{Here, Absent}
-use Rattle.line.specs.declared.Parsed.{Parsed}
-use Rattle.line.specs.declared.Parsed.TheVariants.{Is, Nothing}
+use Rattle.line.specs.Shapes.{Got}
 use Rattle.line.specs.Shapes.{no_fields, read_fields}
 use Rattle.line.specs.Forms.{Row, forms, those, complete, fields_as_row, as_row, first_of, first_form, order_of}
 use Rattle.line.proofs.StencilLaws.{fits, apart, ends, letters, word_fits}
 use Rattle.line.proofs.FormLaws.{outline, apart_nothing}
 use Rattle.form.specs.declared.Word.{Word}
-use Rattle.form.specs.Table.{packed, is_word, rows_by, Numbers}
+use Rattle.form.specs.Table.{packed, is_word, rows_by, rows_from, Numbers}
 use Rattle.form.specs.Computing.{computing_form}
-use Rattle.reader.specs.Finding.{longest, word_at, whole, case_by, case_at, order_at}
+use Rattle.reader.specs.Finding.{longest, marked, word_at, whole, case_by, case_at, order_at}
 use Rattle.reader.proofs.LetterLaws.{same_equal, same_itself, longest_whole}
 
 -- what holds of every row
@@ -46,9 +44,9 @@ row_of P (r ∷ rs) t h e = go (same t r.word) refl e (row_of P rs t h.1)
     go false p e later = later e
 
 -- a line with nothing found later
-first_nothing : (a : Parsed) → first_of a Nothing ≡ a
-first_nothing (Is o) = refl
-first_nothing Nothing = refl
+first_nothing : (a : Option Order) → first_of a None ≡ a
+first_nothing (Some o) = refl
+first_nothing None = refl
 
 -- the rows whose words have n letters at most, and those that a line may have that begins with a word
 abbrev below : ℕ → List Row → List Row
@@ -71,7 +69,7 @@ narrow w s (r ∷ rs) h = go (apart (letters w) false (outline r) (ends r.fields
     go false e i = rw (e, i)
 
 -- A row does not count where its word does not stand.
-no_word : (r : Row) (s : List ℕ) → same (take (length r.word) s) r.word ≡ false → as_row r s ≡ Nothing
+no_word : (r : Row) (s : List ℕ) → same (take (length r.word) s) r.word ≡ false → as_row r s ≡ None
 unfolding as_row
 no_word r s e = rw e
 
@@ -125,17 +123,17 @@ row_case : (r : Row) (rs : List Row) (w s : List ℕ) → r.word ≡ w → same 
 unfolding as_row fields_as_row case_by
 row_case r rs w s e h = rw (e, h) (go (read_fields r.fields no_fields s (length w)))
   where
-    go : (t : Got) → complete r.order s t ≡ whole (λ f. Is (r.order f)) s t
-    go (Here f at) = refl
-    go Absent = refl
+    go : (t : Got) → complete r.order s t ≡ whole (λ f. Some (r.order f)) s t
+    go (Some (f, at)) = refl
+    go None = refl
 
 -- What no line has makes no order.
-never : (s : List ℕ) (at : ℕ) → case_by [] s at ≡ Nothing
+pub never : (s : List ℕ) (at : ℕ) → case_by [] s at ≡ None
 unfolding read_fields case_by
 never s at = refl
 
 -- what the code answers for a word at the front of a line
-abbrev answer : List ℕ → List ℕ → Parsed
+abbrev answer : List ℕ → List ℕ → Option Order
 answer s w = first_of (case_at false (packed w) s (length w)) (case_at true (packed w) s (length w))
 
 -- One or two rows of a word that stands make the orders of its forms.
@@ -189,7 +187,7 @@ row_answer r s k h =
     ∙ (rw k.rows (rows_answer (rows_of r) r.word s k.few k.words h)
     ∙ ap (λ (rs : List Row). first_of (case_by (rows_of r) s n) (case_by rs s n)) (sym k.second))
 
-no_case : (second : Bool) (s : List ℕ) (at : ℕ) → case_at second 0 s at ≡ Nothing
+no_case : (second : Bool) (s : List ℕ) (at : ℕ) → case_at second 0 s at ≡ None
 unfolding computing_form case_by case_at
 no_case false s at = refl
 no_case true s at = refl
@@ -245,42 +243,23 @@ case_first [] s at = refl
 case_first (r ∷ rs) s at = refl
 
 -- So a row by its number makes what the rows make whose first it is.
-numbered_case : (n : ℕ) (rs : List Row) (s : List ℕ) (at : ℕ) → Numbers n rs → case_by (drop n forms) s at ≡ case_by rs s at
-numbered_case n rs s at h = sym (case_first (drop n forms) s at) ∙ (ap (λ (q : List Row). case_by q s at) h.row ∙ case_first rs s at)
+pub numbered_case : (o : Option ℕ) (rs : List Row) (s : List ℕ) (at : ℕ) → Numbers o rs → case_by (rows_from o) s at ≡ case_by rs s at
+numbered_case o rs s at h = sym (case_first (rows_from o) s at) ∙ (ap (λ (q : List Row). case_by q s at) h.row ∙ case_first rs s at)
 
--- the rows that are tried in turn, and what is left to find by them
-abbrev pub rows_in_turn : ℕ → ℕ → List Row
-rows_in_turn zero k = rows_by false k
-rows_in_turn (suc n) k = rows_by true k
+-- the order that a word makes with the fields after it, if there is a word
+abbrev pub ordered : List ℕ → Option Word → Option Order
+ordered s (Some w) = order_at s w.end w
+ordered s None = None
 
-unfoldable pub left_to_find : ℕ → ℕ → List ℕ → ℕ → Parsed
-left_to_find zero k s at = first_of (case_at false k s at) (case_at true k s at)
-left_to_find (suc zero) k s at = case_at true k s at
-left_to_find (suc (suc n)) k s at = Nothing
-
--- What a row makes in its turn is found, and where it makes nothing the next turn finds the same.
-pub found : (n row k : ℕ) (s : List ℕ) (at : ℕ) (o : Order) → n < 2 → Numbers row (rows_in_turn n k) → case_by (drop row forms) s at ≡ Is o → left_to_find n k s at ≡ Is o
-unfolding left_to_find case_at
-found zero row k s at o h r e = rw (sym (numbered_case row (rows_by false k) s at r) ∙ e)
-found (suc zero) row k s at o h r e = sym (numbered_case row (rows_by true k) s at r) ∙ e
-found (suc (suc n)) row k s at o h r e = absurd (omega arith)
-
-pub missed : (n row k : ℕ) (s : List ℕ) (at : ℕ) → n < 2 → Numbers row (rows_in_turn n k) → case_by (drop row forms) s at ≡ Nothing → left_to_find n k s at ≡ left_to_find (suc n) k s at
-unfolding left_to_find case_at
-missed zero row k s at h r e = rw (sym (numbered_case row (rows_by false k) s at r) ∙ e)
-missed (suc zero) row k s at h r e = sym (numbered_case row (rows_by true k) s at r) ∙ e
-missed (suc (suc n)) row k s at h r e = absurd (omega arith)
-
--- Without a word there is no order, whatever the place.
-pub no_order : (s : List ℕ) (at : ℕ) (w : Word) → w.letters ≡ 0 → order_at s at w ≡ Nothing
-unfolding order_at
-no_order s at w e = rw (e, no_case false s at, no_case true s at) (either (leb (length s) 80))
+-- A line is the order that its longest word makes with the fields after it, for every list of bytes, of every length.
+pub order_found : (s : List ℕ) → ordered s (word_at s 0) ≡ order_of s
+unfolding order_at word_at order_of computing_form
+order_found s = rw (eight s) (go (longest 8 s))
   where
-    either : (t : Bool) → cond t Nothing Nothing ≡ Nothing
+    either : (t : Bool) → ◌≡◌ {A = Option Order} None (cond t None None)
     either true = refl
     either false = refl
 
--- A line is the order that its longest word makes with the fields after it, for every list of bytes, of every length.
-pub order_found : (s : List ℕ) → order_at s (word_at s 0).end (word_at s 0) ≡ order_of s
-unfolding order_at word_at order_of
-order_found s = rw (zero-add (length (longest 8 s)), eight s)
+    go : (w : List ℕ) → ordered s (marked 0 w) ≡ cond (leb (length s) 80) (answer s w) None
+    go [] = rw (no_case false s 0, no_case true s 0) (either (leb (length s) 80))
+    go (b ∷ w) = rw (zero-add (length (b ∷ w)))

@@ -1,5 +1,6 @@
 -- Laws of words and their letters: the number of a word stands for that word alone, and the longest word is found letter by
 -- letter. Assumes nothing.
+use Rattle.std.specs.Prelude.{Option, Some, None, is_some}
 use mathlib.Core.Path.{◌≡◌, refl, sym, ap, ◌∙◌}
 use mathlib.Core.List.{List, [], ◌∷◌, ◌++◌, reverse, reverse-cons, reverse-append, reverse-reverse}
 use mathlib.Core.Bool.{Bool, true, false, ◌&&◌, ◌||◌, cond, and-eq-true_iff, false≢true}
@@ -10,16 +11,14 @@ use native.Mathlib.Omega.{arith}
 use lib.ListN.{length, take, drop, get_or}
 use lib.Seq.{take-suc, take_all, length-take-le, get_or-take}
 use lib.Dec.{eqb, ltb, leb}
-use borrow.Author.Tests.{eqb-true, eq-eqb, ne_eqb, lt-ltb, ltb-true, ltb-false, leb-true, leb-false}
+use borrow.Author.Tests.{eqb-true, eq-eqb, ne_eqb, lt-ltb, ltb-true, leb-true, leb-false}
 use Rattle.digits.specs.Bytes.{AllBytes}
 use Rattle.digits.specs.Words.{word}
 use Rattle.text.specs.Text.{same}
 use Rattle.digits.proofs.PartLaws.{append_bytes, cons_bytes, none_bytes}
 use Rattle.line.specs.Forms.{Row, forms, those}
-use Rattle.form.specs.Table.{packed, rows_with, is_word, rows_by, row_count, Numbers}
+use Rattle.form.specs.Table.{packed, rows_with, is_word, rows_by, rows_from, is_row, row_count, Numbers}
 use Rattle.form.specs.Computing.{computing_form}
-use Rattle.form.specs.declared.Word.{Word}
-use Rattle.form.proofs.TableLaws.{no_rows}
 use Rattle.reader.specs.Finding.{some_row, longest, is_letter, letters_at_front, marked, letter_count}
 
 -- Two texts that are the same are equal, and a text is the same as itself.
@@ -297,10 +296,10 @@ letters_end (b ∷ s) (suc n) h e = go (is_letter b) refl h (letters_end s n)
     go true p h later = ap suc (later (omega arith) e)
     go false p h later = absurd (not-suc-le-zero h)
 
--- Where no word stands, no letters are marked.
-pub marked_none : (at : ℕ) → ◌≡◌ {A = Word} (record { letters = 0; end = at }) (marked at [])
-unfolding packed word
-marked_none at = rw (add-zero at)
+-- Where the line has ended stands no word.
+pub longest_none : longest 8 [] ≡ []
+unfolding computing_form longest
+longest_none = refl
 
 -- The letters at the front of a line are bytes.
 pub letter_small : (b : ℕ) → is_letter b ≡ true → b < 256
@@ -334,13 +333,14 @@ letters_word t n h =
 
 -- The letters that are left are the longest word where they are one, and else the longest is among fewer.
 pub word_here : (t : List ℕ) (at n : ℕ) → 0 < n → n ≤ letter_count t → some_row (rows_with (packed (take n t)) forms) ≡ true
-    → ◌≡◌ {A = Word} (record { letters = packed (take n t); end = at + n }) (marked at (longest n t))
+    → Some (record { letters = packed (take n t); end = at + n }) ≡ marked at (longest n t)
 unfolding longest
 word_here t at zero z h e = absurd (omega arith)
-word_here t at (suc n) z h e =
-    let i = count_within t n (omega arith) in
-    let l : length (take (suc n) t) ≡ suc n = length-take-le (suc n) t (omega arith) in
-    let w : is_word forms (take (suc n) t) ≡ true = sym (letters_word t n (omega arith)) ∙ e in
+word_here [] at (suc n) z h e = absurd (omega (arith, h, letters_within []))
+word_here (b ∷ t) at (suc n) z h e =
+    let i = count_within (b ∷ t) n (omega arith) in
+    let l : length (b ∷ take n t) ≡ suc n = length-take-le (suc n) (b ∷ t) (omega arith) in
+    let w : is_word forms (take (suc n) (b ∷ t)) ≡ true = sym (letters_word (b ∷ t) n (omega arith)) ∙ e in
     rw (w, l)
 
 pub word_shorter : (t : List ℕ) (n : ℕ) → 0 < n → n ≤ letter_count t → some_row (rows_with (packed (take n t)) forms) ≡ false → longest n t ≡ longest (n - 1) t
@@ -370,14 +370,14 @@ some_first : (rs : List Row) → some_row (take 1 rs) ≡ some_row rs
 some_first [] = refl
 some_first (r ∷ rs) = refl
 
--- Letters are a word where the number of their row is below that of none.
-pub number_row : (n k : ℕ) → Numbers n (rows_by false k) → ltb n row_count ≡ some_row (rows_with k forms)
+-- Letters are a word where they have a row.
+pub number_row : (o : Option ℕ) (k : ℕ) → Numbers o (rows_by false k) → is_some o ≡ some_row (rows_with k forms)
 unfolding rows_by row_count
-number_row n k h = go (ltb n row_count) refl
+number_row o k h = present o h.most ∙ sym same_row
   where
-    same_row : some_row (rows_with k forms) ≡ some_row (drop n forms)
-    same_row = sym (some_first (rows_with k forms)) ∙ (ap some_row (sym h.row) ∙ some_first (drop n forms))
+    same_row : some_row (rows_with k forms) ≡ some_row (rows_from o)
+    same_row = sym (some_first (rows_with k forms)) ∙ (ap some_row (sym h.row) ∙ some_first (rows_from o))
 
-    go : (t : Bool) → ltb n row_count ≡ t → t ≡ some_row (rows_with k forms)
-    go true e = rw same_row (sym (some_left n forms (ltb-true n row_count e)))
-    go false e = rw (same_row, no_rows n (ltb-false n row_count e))
+    present : (o : Option ℕ) → is_row o ≡ true → is_some o ≡ some_row (rows_from o)
+    present (Some n) e = sym (some_left n forms (ltb-true n row_count e))
+    present None e = refl

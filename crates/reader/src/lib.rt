@@ -13,7 +13,7 @@ ghost use Rattle.line.specs.Forms.{order_of};
 use crate::finding::word_at;
 use crate::matching::order_at;
 use form::Word;
-use line::Parsed;
+use line::Order;
 
 #[derive(Clone, Copy)]
 pub struct Reader<'a> {
@@ -28,8 +28,8 @@ pub fn open<'a>(line: &'a [u8]) -> Reader<'a>
     Reader { line, place: 0 }
 }
 
-// The word that stands at the place reached.
-pub fn word<'a>(r: Reader<'a>) -> Word
+// The word that stands at the place reached, if one does.
+pub fn word<'a>(r: Reader<'a>) -> Option<Word>
     ensures { result ≡ word_at r.entry.line.now r.entry.place }
 {
     word_at(r.line, r.place)
@@ -39,24 +39,21 @@ pub fn word<'a>(r: Reader<'a>) -> Word
 pub fn past<'a>(r: Reader<'a>, w: Word) -> Reader<'a>
     ensures { (result.line ≡ r.entry.line) × (result.place ≡ w.end) }
 {
-    Reader {
-        line: r.line,
-        place: w.end,
-    }
+    Reader { place: w.end, ..r }
 }
 
 // The order that a word makes with the fields from the place reached to the end of the line.
-pub fn order<'a>(r: Reader<'a>, w: Word) -> Parsed
+pub fn order<'a>(r: Reader<'a>, w: Word) -> Option<Order>
     ensures { result ≡ order_at r.entry.line.now r.entry.place w }
 {
     order_at(r.line, r.place, w)
 }
 
 // The order that a line is, for every list of bytes.
-pub fn read_line(line: &[u8]) -> Parsed
+pub fn read_line(line: &[u8]) -> Option<Order>
     ensures { result ≡ order_of line.now }
 {
     let r = open(line);
-    let w = word(r);
+    let w = word(r)?;
     order(past(r, w), w)
 }
