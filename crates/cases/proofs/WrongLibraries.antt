@@ -3,6 +3,7 @@
 -- counts or reply lengths"; three of the "Errors that look right"; some that would keep to the sums and still be of no use; and some
 -- that misread a request of document 02. Each is ours with one call replaced, and is refused on one short sequence, by computing it.
 -- Where a demand is of any table, the table that refuses the library is made without judging it at each call. Assumes nothing.
+use Rattle.std.specs.Prelude.{Option, Some, None}
 use Prim.Native.Char.{code}
 use Prim.Native.Nat.{ℕ, ◌+◌, ◌*◌, ◌-◌, ◌/◌, ◌%◌, ◌≤◌, ◌<◌}
 use Prim.Native.String as S
@@ -31,7 +32,6 @@ use Rattle.line.specs.declared.HeadQuestion.TheVariants.{AskBusy, AskFree}
 use Rattle.line.specs.declared.HeadOrder.TheVariants.{Mode, Pause}
 use Rattle.line.specs.declared.Order.{Order}
 use Rattle.line.specs.declared.Order.TheVariants.{Go, Stop, ChangeSpeed, Set, ForHead}
-use Rattle.line.specs.declared.Parsed.TheVariants.{Is, Nothing}
 use Rattle.line.specs.Forms.{ssend, order_of}
 use Rattle.table.specs.declared.head.Head.{Head}
 use Rattle.table.specs.Layout.{head_of, head_bytes, head_rest, paused, card_full, with_head, with_mode, with_reply, with_errors, with_pause, with_busy, motor_at, sealed, with_motor, with_motors, fresh_table}
@@ -472,12 +472,12 @@ abbrev underway : List ℕ
 underway = ran unjudged lent scanning
 
 -- A library is refused if it takes a line that has no form,
-takes_formless : (l : Library) (t line : List ℕ) → sizes_right t (command line (replicate 32 0xaa)) ≡ true → sound_table t ≡ true → order_in t line ≡ Nothing
+takes_formless : (l : Library) (t line : List ℕ) → sizes_right t (command line (replicate 32 0xaa)) ≡ true → sound_table t ≡ true → order_in t line ≡ None
     → (l.command t line (replicate 32 0xaa)).result % 256 ≡ 0 → Numbers l → ⊥
 takes_formless l t line sizes sound none taken n = absurd (omega (arith, n.formless t line (replicate 32 0xaa) sizes sound none, taken))
 
 -- or gives 1 to a line that the rules accept.
-refuses_form : (l : Library) (t line : List ℕ) (o : Order) → sound_table t ≡ true → order_taken t (command line (replicate 32 0xaa)) ≡ Is o
+refuses_form : (l : Library) (t line : List ℕ) (o : Order) → sound_table t ≡ true → order_taken t (command line (replicate 32 0xaa)) ≡ Some o
     → (l.command t line (replicate 32 0xaa)).result % 256 ≡ 1 → Numbers l → ⊥
 refuses_form l t line o sound accepted refused n = absurd (omega (arith, n.accepts t line (replicate 32 0xaa) o sound accepted, refused))
 
@@ -554,7 +554,7 @@ unread_at_end = ran unjudged lent (says "REM" ∷ says "PS0+2147483647" ∷ [])
 
 -- A library is refused if it gives a line another number than the rules.
 numbered_other : (l : Library) (t line : List ℕ) (o : Order) (n m : ℕ) → sizes_right t (command line (replicate 32 0xaa)) ≡ true → sound_table t ≡ true
-    → order_in t line ≡ Is o → number_of (judge t o) ≡ n → (l.command t line (replicate 32 0xaa)).result % 256 ≡ m → (m ≡ n → ⊥) → Numbers l → ⊥
+    → order_in t line ≡ Some o → number_of (judge t o) ≡ n → (l.command t line (replicate 32 0xaa)).result % 256 ≡ m → (m ≡ n → ⊥) → Numbers l → ⊥
 numbered_other l t line o n m sizes sound e f g other d =
     other (sym g ∙ d.judged t line (replicate 32 0xaa) o sizes sound e ∙ f)
 
@@ -714,7 +714,7 @@ renumbers f =
 
 -- What it gives to a line on a sound table, which our number n for it decides.
 module _ (f : List ℕ → List ℕ → ℕ → ℕ) (t line : List ℕ) (o : Order) (n m : ℕ) (sizes : sizes_right t (command line (replicate 32 0xaa)) ≡ true)
-    (sound : sound_table t ≡ true) (is : order_in t line ≡ Is o) (judged : number_of (judge t o) ≡ n) (gives : f t line n ≡ m) (small : m ≤ 255) where
+    (sound : sound_table t ≡ true) (is : order_in t line ≡ Some o) (judged : number_of (judge t o) ≡ n) (gives : f t line n ≡ m) (small : m ≤ 255) where
   renumbered : ((renumbers f).command t line (replicate 32 0xaa)).result % 256 ≡ m
   renumbered =
       let ours : (command_call t line (replicate 32 0xaa)).result % 256 ≡ n = numbers.judged t line (replicate 32 0xaa) o sizes sound is ∙ judged in

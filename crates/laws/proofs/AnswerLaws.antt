@@ -1,4 +1,5 @@
 -- Demand 2, the replies: what every line on a sound table answers. Assumes nothing.
+use Rattle.std.specs.Prelude.{Option, Some, None}
 use mathlib.Core.Path.{◌≡◌, refl, sym}
 use mathlib.Core.List.{List}
 use mathlib.Core.Bool.{true, false, false≢true}
@@ -11,8 +12,6 @@ use Rattle.drive.specs.Numbers.{number_of}
 use Rattle.drive.proofs.NumberLaws.{numbered}
 use Rattle.line.specs.declared.Order.{Order}
 use Rattle.line.specs.declared.Order.TheVariants.{Go, Stop, StopAll, ChangeSpeed, Set, Ask, AskHead, ForHead}
-use Rattle.line.specs.declared.Parsed.{Parsed}
-use Rattle.line.specs.declared.Parsed.TheVariants.{Is}
 use Rattle.line.specs.Forms.{has_form}
 use Rattle.orders.specs.Values.{needs_remote, value_in_range}
 use Rattle.replies.specs.Replies.{echo, question_text, head_text}
@@ -44,18 +43,18 @@ unasked t (ForHead o) e = refl
 
 module _ (t line reply : List ℕ) (s : sound_table t ≡ true) (enough : 32 ≤ length reply) where
   -- what a line that is no read leaves: its number and its text, as all-reply is after it
-  Told : CommandAfter → Parsed → Type 0
+  Told : CommandAfter → Option Order → Type 0
   Told a p =
       let text = echo (head_of a.table).reply (verdict t p) in
       (a.result ≡ number_of (verdict t p) + 256 * length text) × (a.reply ≡ put reply 0 text)
 
-  told_so : (p : Parsed) → is_some asks p ≡ false → Told (taken t p reply) p
+  told_so : (p : Option Order) → is_some asks p ≡ false → Told (taken t p reply) p
   unfolding Told refused obeyed
   told_so p e =
       taken_ways (λ a q. Told a p) t reply p (λ h. (refl, refl))
       (λ o q z. go o q z (rw q at e))
     where
-      go : (o : Order) → p ≡ Is o → number_of (judge t o) ≡ 0 → asks o ≡ false → Told (obeyed t o reply) p
+      go : (o : Order) → p ≡ Some o → number_of (judge t o) ≡ 0 → asks o ≡ false → Told (obeyed t o reply) p
       go o q z e = rw (q, (numbered (judge t o)).done z, unasked (changed t o) o e) (refl, refl)
 
   told_call : is_some asks (order_in t line) ≡ false → Told (command_call t line reply) (order_in t line)

@@ -1,4 +1,5 @@
 -- The ways that a call can go, for every table and all inputs, and the number that each of them gives. Assumes nothing.
+use Rattle.std.specs.Prelude.{Option, Some, None}
 use mathlib.Core.Path.{◌≡◌, refl, sym, ◌∙◌}
 use mathlib.Core.List.{List}
 use mathlib.Core.Bool.{Bool, true, false, ◌&&◌, cond, false≢true}
@@ -12,8 +13,6 @@ use Rattle.drive.specs.Numbers.{number_of, is_silent, is_refusal}
 use Rattle.drive.specs.Drives.{switch_read}
 use Rattle.pulses.specs.Ticks.{tick_motor}
 use Rattle.line.specs.declared.Order.{Order}
-use Rattle.line.specs.declared.Parsed.{Parsed}
-use Rattle.line.specs.declared.Parsed.TheVariants.{Is, Nothing}
 use Rattle.line.specs.Forms.{order_of, has_form, on_card}
 use Rattle.table.specs.Layout.{table_size, head_of, motor_at, with_motor, with_motors}
 use Rattle.table.specs.Sound.{sound_table}
@@ -27,41 +26,41 @@ use Rattle.laws.specs.Sequences.{command}
 use Rattle.laws.specs.Deeds.{verdict, order_passed, order_taken}
 
 -- What holds of a line that is refused, and of one that is obeyed, holds of the line.
-pub taken_ways : (P : CommandAfter → Parsed → Type 0) (t reply : List ℕ) (p : Parsed)
-    → (is_refusal (number_of (verdict t p)) ≡ true → P (refused t (verdict t p) reply) Nothing)
-    → ((o : Order) → p ≡ Is o → number_of (judge t o) ≡ 0 → P (obeyed t o reply) (Is o))
+pub taken_ways : (P : CommandAfter → Option Order → Type 0) (t reply : List ℕ) (p : Option Order)
+    → (is_refusal (number_of (verdict t p)) ≡ true → P (refused t (verdict t p) reply) None)
+    → ((o : Order) → p ≡ Some o → number_of (judge t o) ≡ 0 → P (obeyed t o reply) (Some o))
     → P (taken t p reply) (order_passed t p)
 unfolding taken
-taken_ways P t reply Nothing bad good = bad (unfold number_of in refl)
-taken_ways P t reply (Is o) bad good = go (accepted (judge t o)) refl
+taken_ways P t reply None bad good = bad (unfold number_of in refl)
+taken_ways P t reply (Some o) bad good = go (accepted (judge t o)) refl
   where
-    go : (b : Bool) → accepted (judge t o) ≡ b → P (cond b (obeyed t o reply) (refused t (judge t o) reply)) (cond b (Is o) Nothing)
+    go : (b : Bool) → accepted (judge t o) ≡ b → P (cond b (obeyed t o reply) (refused t (judge t o) reply)) (cond b (Some o) None)
     go true e = good o refl (eqb-true (number_of (judge t o)) 0 e)
     go false e = bad (refused_judged t o e)
 
 -- A line that is an order on a card is that order.
-pub on_card_law : (card : ℕ) (p : Parsed) (o : Order) → on_card card p ≡ Is o → p ≡ Is o
-on_card_law card Nothing o e = e
-on_card_law card (Is q) o e = go (has_form card q) e
+pub on_card_law : (card : ℕ) (p : Option Order) (o : Order) → on_card card p ≡ Some o → p ≡ Some o
+on_card_law card None o e = e
+on_card_law card (Some q) o e = go (has_form card q) e
   where
-    go : (b : Bool) → cond b (Is q) Nothing ≡ Is o → Is q ≡ Is o
+    go : (b : Bool) → cond b (Some q) None ≡ Some o → Some q ≡ Some o
     go true e = e
     go false e = let z : ◌≡◌ {A = ℕ} 0 1 = cc in absurd (omega arith)
 
 -- And an order that a line is has a form, where the card has its form.
-pub in_form : (t line : List ℕ) (o : Order) → order_of line ≡ Is o → has_form (head_of t).card o ≡ true → order_in t line ≡ Is o
+pub in_form : (t line : List ℕ) (o : Order) → order_of line ≡ Some o → has_form (head_of t).card o ≡ true → order_in t line ≡ Some o
 in_form t line o e h = rw (e, h)
 
 -- The same of a command on a sound table, with the order that it carries out.
-pub sound_ways : (P : CommandAfter → Parsed → Type 0) (t line reply : List ℕ) → sound_table t ≡ true
-    → P (record { result = 5; table = t; reply = reply }) Nothing
-    → (let v = verdict t (order_in t line) in is_refusal (number_of v) ≡ true → P (refused t v reply) Nothing)
-    → ((o : Order) → order_of line ≡ Is o → number_of (judge t o) ≡ 0 → P (obeyed t o reply) (Is o))
+pub sound_ways : (P : CommandAfter → Option Order → Type 0) (t line reply : List ℕ) → sound_table t ≡ true
+    → P (record { result = 5; table = t; reply = reply }) None
+    → (let v = verdict t (order_in t line) in is_refusal (number_of v) ≡ true → P (refused t v reply) None)
+    → ((o : Order) → order_of line ≡ Some o → number_of (judge t o) ≡ 0 → P (obeyed t o reply) (Some o))
     → P (command_call t line reply) (order_taken t (command line reply))
 unfolding command_call order_taken number_of
 sound_ways P t line reply s small bad good = go (leb 32 (length reply)) refl
   where
-    go : (b : Bool) → leb 32 (length reply) ≡ b → P (command_call t line reply) (cond b (order_passed t (order_in t line)) Nothing)
+    go : (b : Bool) → leb 32 (length reply) ≡ b → P (command_call t line reply) (cond b (order_passed t (order_in t line)) None)
     go true e = rw (eq-eqb (length t) table_size (sound_length t s), e, s) (taken_ways P t reply (order_in t line) bad (λ o e z. good o (on_card_law (head_of t).card (order_of line) o e) z))
     go false e = rw (eq-eqb (length t) table_size (sound_length t s), e) small
 
@@ -89,7 +88,7 @@ ways P true t left done bad good = go (sound_table t) refl
 pub command_ways : (P : CommandAfter → Type 0) (t line reply : List ℕ)
     → ((n : ℕ) → Silent n → P (record { result = n; table = t; reply = reply }))
     → (sound_table t ≡ true → (v : Verdict) → is_refusal (number_of v) ≡ true → P (refused t v reply))
-    → (sound_table t ≡ true → (o : Order) → order_of line ≡ Is o → P (obeyed t o reply))
+    → (sound_table t ≡ true → (o : Order) → order_of line ≡ Some o → P (obeyed t o reply))
     → P (command_call t line reply)
 unfolding command_call
 command_ways P t line reply bad flag good =

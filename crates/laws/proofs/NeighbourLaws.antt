@@ -1,4 +1,5 @@
 -- The bytes that a call leaves as they were, for every table and all inputs. Assumes nothing.
+use Rattle.std.specs.Prelude.{Option, Some, None}
 use mathlib.Core.Path.{◌≡◌, refl, sym, ap, ◌∙◌}
 use mathlib.Core.List.{List, [], ◌∷◌}
 use mathlib.Core.Logic.{inl, inr}
@@ -20,8 +21,6 @@ use Rattle.line.specs.declared.HeadOrder.{HeadOrder}
 use Rattle.line.specs.declared.HeadOrder.TheVariants.{Mode, AllReply, ClearErrors, ClearError, Pause}
 use Rattle.line.specs.declared.Order.{Order}
 use Rattle.line.specs.declared.Order.TheVariants.{Go, Stop, StopAll, ChangeSpeed, Set, Ask, AskHead, ForHead}
-use Rattle.line.specs.declared.Parsed.{Parsed}
-use Rattle.line.specs.declared.Parsed.TheVariants.{Is, Nothing}
 use Rattle.line.specs.Forms.{order_of}
 use Rattle.line.specs.Made.{order_made}
 use Rattle.line.proofs.OrderLaws.{line_made}
@@ -105,12 +104,12 @@ changed_left t (AskHead a) d s made q = refl
 changed_left t (ForHead o) d s made q = head_left_record t o (head_changed (head_of t) o) d s q
 
 -- the table after what a line is, were it accepted
-abbrev obeyed_table : List ℕ → Parsed → List ℕ
-obeyed_table t (Is o) = changed t o
-obeyed_table t Nothing = t
+abbrev obeyed_table : List ℕ → Option Order → List ℕ
+obeyed_table t (Some o) = changed t o
+obeyed_table t None = t
 
 -- So does the command, on any table: a refusal writes to the head at most.
-command_left : (t line reply : List ℕ) (o : Order) (d : ℕ) → order_of line ≡ Is o → (sound_table t ≡ true → Left t d (deed_of d o))
+command_left : (t line reply : List ℕ) (o : Order) (d : ℕ) → order_of line ≡ Some o → (sound_table t ≡ true → Left t d (deed_of d o))
     → record_at (command_call t line reply).table d ≡ record_at t d
 unfolding refused obeyed flagged
 command_left t line reply o d e q =
@@ -121,16 +120,16 @@ command_left t line reply o d e q =
 
 -- A line that is nothing to a channel leaves its record, a stop leaves that of a motor that stands stopped, and a line of pause that of
 -- one that it does not release.
-unreached : (t line reply : List ℕ) (o : Order) (d : ℕ) → order_of line ≡ Is o → deed_of d o ≡ rests
+unreached : (t line reply : List ℕ) (o : Order) (d : ℕ) → order_of line ≡ Some o → deed_of d o ≡ rests
     → record_at (command_call t line reply).table d ≡ record_at t d
 unreached t line reply o d e q = command_left t line reply o d e (λ s. rw q tt)
 
-still : (t line reply : List ℕ) (o : Order) (flags d : ℕ) → AllBytes t → d ≤ 15 → order_of line ≡ Is o → deed_of d o ≡ stops flags
+still : (t line reply : List ℕ) (o : Order) (flags d : ℕ) → AllBytes t → d ≤ 15 → order_of line ≡ Some o → deed_of d o ≡ stops flags
     → busy (motor_at t d) ≡ false → record_at (command_call t line reply).table d ≡ record_at t d
 still t line reply o flags d bytes h e q stands =
     command_left t line reply o d e (λ s. rw q (h, rw (stopped_again flags (motor_at t d) stands) (written_back t d s bytes h)))
 
-unreleased : (t line reply : List ℕ) (o : Order) (k d : ℕ) → AllBytes t → d ≤ 15 → order_of line ≡ Is o → deed_of d o ≡ pauses k
+unreleased : (t line reply : List ℕ) (o : Order) (k d : ℕ) → AllBytes t → d ≤ 15 → order_of line ≡ Some o → deed_of d o ≡ pauses k
     → (eqb k 0 && (motor_at t d).drive.held) ≡ false → record_at (command_call t line reply).table d ≡ record_at t d
 unreleased t line reply o k d bytes h e q free =
     command_left t line reply o d e
@@ -167,7 +166,7 @@ released_bytes t o d s bytes h q =
     written : record_of (released (motor_at t d)) ≡ put (record_at t d) 32 ((motor_at t d).drive.going ∷ [])
     written = rw (released_as (motor_at t d), ← way_written (motor_at t d), written_back t d s bytes h)
 
-let_go : (t line reply : List ℕ) (o : Order) (d : ℕ) → AllBytes t → d ≤ 15 → order_of line ≡ Is o → deed_of d o ≡ pauses 0
+let_go : (t line reply : List ℕ) (o : Order) (d : ℕ) → AllBytes t → d ≤ 15 → order_of line ≡ Some o → deed_of d o ≡ pauses 0
     → (command_call t line reply).result % 256 ≡ 0 → record_at (command_call t line reply).table d ≡ put (record_at t d) 32 ((motor_at t d).drive.going ∷ [])
 unfolding obeyed
 let_go t line reply o d bytes h e q =
@@ -214,7 +213,7 @@ changed_head t (ForHead o) i n s made q h = absurd (false≢true (sym q))
 both_parts : (t u : List ℕ) → ((i n : ℕ) → Beside i n → part u i n ≡ part t i n) → HeadLeft t u
 both_parts t u same = (same 0 4 (inl (omega arith)), same 6 58 (inr (omega arith, omega arith)))
 
-head : (t line reply : List ℕ) (o : Order) → order_of line ≡ Is o → of_head o ≡ false → (command_call t line reply).result % 256 ≡ 0
+head : (t line reply : List ℕ) (o : Order) → order_of line ≡ Some o → of_head o ≡ false → (command_call t line reply).result % 256 ≡ 0
     → HeadLeft t (command_call t line reply).table
 unfolding obeyed
 head t line reply o e q =
@@ -254,7 +253,7 @@ ordered_set t (AskHead a) s q = refl
 ordered_set t (ForHead o) s q =
     rw (head_back (motors_freed t o) (head_changed (head_of t) o) (freed_length t o (sound_length t s))) (changed_others (head_of t) o).0
 
-head_set_law : (t line reply : List ℕ) (o : Order) → order_of line ≡ Is o → of_head o ≡ true → (head_of (command_call t line reply).table).busy ≡ (head_of t).busy
+head_set_law : (t line reply : List ℕ) (o : Order) → order_of line ≡ Some o → of_head o ≡ true → (head_of (command_call t line reply).table).busy ≡ (head_of t).busy
 unfolding refused obeyed flagged
 head_set_law t line reply o e q =
     let same : sound_table t ≡ true → (head_of (obeyed_table t (order_of line))).busy ≡ (head_of t).busy = λ s. rw e (ordered_set t o s q) in

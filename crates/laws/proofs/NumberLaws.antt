@@ -1,4 +1,5 @@
 -- The numbers handed back, for every table and all inputs. Assumes nothing.
+use Rattle.std.specs.Prelude.{Option, Some, None}
 use mathlib.Core.Path.{◌≡◌, refl, sym, ◌∙◌}
 use mathlib.Core.List.{List, []}
 use mathlib.Core.Bool.{Bool, true, false, ◌&&◌, ◌||◌, not, cond, false≢true}
@@ -21,8 +22,6 @@ use Rattle.drive.specs.Numbers.{number_of, is_silent, is_refusal}
 use Rattle.drive.proofs.NumberLaws.{numbered}
 use Rattle.line.specs.declared.Order.{Order}
 use Rattle.line.specs.declared.Order.TheVariants.{Go, Stop, StopAll, ChangeSpeed, Set, Ask, AskHead, ForHead}
-use Rattle.line.specs.declared.Parsed.{Parsed}
-use Rattle.line.specs.declared.Parsed.TheVariants.{Is, Nothing}
 use Rattle.line.specs.declared.Start.{Start}
 use Rattle.line.specs.Forms.{order_of}
 use Rattle.line.specs.Made.{order_made}
@@ -140,9 +139,9 @@ unhindered t o i = judge_passes unhindering t o refl refl refl (by_motor o i)
 starts : (t line reply : List ℕ) (n : ℕ) → 8 ≤ n → (n ≡ 13 → ⊥) → (command_call t line reply).result % 256 ≡ n → is_some starting (order_of line) ≡ true
 starts t line reply n low other e = sized (sizes_right t (command line reply)) refl
   where
-    found : (p : Parsed) → order_in t line ≡ p → hinders (number_of (verdict t p)) ≡ true → is_some starting (order_of line) ≡ true
-    found Nothing q h = absurd (false≢true (unfold number_of in h))
-    found (Is o) q h = rw (on_card_law (head_of t).card (order_of line) o q) (go (starting o) refl)
+    found : (p : Option Order) → order_in t line ≡ p → hinders (number_of (verdict t p)) ≡ true → is_some starting (order_of line) ≡ true
+    found None q h = absurd (false≢true (unfold number_of in h))
+    found (Some o) q h = rw (on_card_law (head_of t).card (order_of line) o q) (go (starting o) refl)
       where
         go : (b : Bool) → starting o ≡ b → starting o ≡ true
         go true i = i
@@ -214,9 +213,9 @@ fourteen t line reply e = sized (sizes_right t (command line reply)) refl
     known : sound_table t ≡ true → (head_of t).card ≤ 1
     known s = leb-true (head_of t).card 1 (range_parts (head_of t) (sound_range t s)).card
 
-    found : sound_table t ≡ true → (p : Parsed) → order_in t line ≡ p → number_of (verdict t p) ≡ 14 → (head_of t).card ≡ 0 → ⊥
-    found s Nothing q n z = absurd (omega (arith, n))
-    found s (Is o) q n z =
+    found : sound_table t ≡ true → (p : Option Order) → order_in t line ≡ p → number_of (verdict t p) ≡ 14 → (head_of t).card ≡ 0 → ⊥
+    found s None q n z = absurd (omega (arith, n))
+    found s (Some o) q n z =
         let made : order_made o ≡ true = rw (on_card_law (head_of t).card (order_of line) o q) at (line_made line) in
         false≢true (rw n at (on_sixteen t o s made z))
 
@@ -244,9 +243,9 @@ flags t line reply n h =
     (λ s o q e. absurd (refusal_some n h (sym e ∙ obeyed_number t o reply)))
 
 -- whether an order is carried out
-abbrev given : Parsed → Bool
-given (Is o) = true
-given Nothing = false
+abbrev given : Option Order → Bool
+given (Some o) = true
+given None = false
 
 -- On a sound table 0 comes where an order is carried out, and nowhere else.
 decides : (t line reply : List ℕ) → sound_table t ≡ true

@@ -1,5 +1,6 @@
 -- No wrong library meets the demands: whatever meets them leaves, after every call on every table, what ours leaves. Assumes
 -- nothing.
+use Rattle.std.specs.Prelude.{Option, Some, None}
 use mathlib.Core.Path.{◌≡◌, refl, sym, ◌∙◌}
 use mathlib.Core.List.{List}
 use mathlib.Core.Bool.{Bool, true, false, ◌&&◌, false≢true}
@@ -13,8 +14,6 @@ use Rattle.line.specs.declared.Question.{Question}
 use Rattle.line.specs.declared.HeadQuestion.{HeadQuestion}
 use Rattle.line.specs.declared.Order.{Order}
 use Rattle.line.specs.declared.Order.TheVariants.{Go, Stop, StopAll, ChangeSpeed, Set, Ask, AskHead, ForHead}
-use Rattle.line.specs.declared.Parsed.{Parsed}
-use Rattle.line.specs.declared.Parsed.TheVariants.{Is, Nothing}
 use Rattle.line.specs.Forms.{order_of}
 use Rattle.table.specs.Layout.{table_size, head_of}
 use Rattle.table.specs.Sound.{sound_table}
@@ -70,7 +69,7 @@ module _ (l : Library) (d : Demands l) where
         → (l.command t line reply).table ≡ (urqolina.command t line reply).table
     refused_table n h p q = d.numbers.flags t line reply n h p ∙ sym (demands.numbers.flags t line reply n h q)
 
-    ordered : (o : Order) → order_in t line ≡ Is o → Asked o → after l t (command line reply) ≡ after urqolina t (command line reply)
+    ordered : (o : Order) → order_in t line ≡ Some o → Asked o → after l t (command line reply) ≡ after urqolina t (command line reply)
     ordered _ q (asks_channel x k) =
         let asked = on_card_law (head_of t).card (order_of line) (Ask x k) q in
         (d.replies t line reply s enough).reads x k asked ∙ sym ((demands.replies t line reply s enough).reads x k asked)
@@ -85,9 +84,9 @@ module _ (l : Library) (d : Demands l) where
             refused_table (number_of (judge t o)) (refused_judged t o z)
             (d.numbers.judged t line reply o e s q) (demands.numbers.judged t line reply o e s q)
 
-    lined : (p : Parsed) → order_in t line ≡ p → after l t (command line reply) ≡ after urqolina t (command line reply)
-    lined (Is o) q = ordered o q (asked o)
-    lined Nothing q =
+    lined : (p : Option Order) → order_in t line ≡ p → after l t (command line reply) ≡ after urqolina t (command line reply)
+    lined (Some o) q = ordered o q (asked o)
+    lined None q =
         from_table (rw q refl)
         (refused_table 1 refl (d.numbers.formless t line reply e s q) (demands.numbers.formless t line reply e s q))
 

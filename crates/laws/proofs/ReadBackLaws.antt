@@ -1,4 +1,5 @@
 -- Demand 2, the settings: over any sequence of calls, what was accepted is what the read command answers. Assumes nothing.
+use Rattle.std.specs.Prelude.{Option, Some, None}
 use mathlib.Core.Path.{◌≡◌, refl, ◌∙◌}
 use mathlib.Core.List.{List, [], ◌∷◌}
 use mathlib.Core.Bool.{Bool, true, false, not, cond}
@@ -24,8 +25,6 @@ use Rattle.line.specs.declared.HeadOrder.{HeadOrder}
 use Rattle.line.specs.declared.HeadOrder.TheVariants.{Mode, AllReply, ClearErrors, ClearError, Pause}
 use Rattle.line.specs.declared.Order.{Order}
 use Rattle.line.specs.declared.Order.TheVariants.{Go, Stop, StopAll, ChangeSpeed, Set, Ask, AskHead, ForHead}
-use Rattle.line.specs.declared.Parsed.{Parsed}
-use Rattle.line.specs.declared.Parsed.TheVariants.{Is, Nothing}
 use Rattle.line.specs.Forms.{asks_on, has_form}
 use Rattle.line.specs.Made.{on_bench, setting_made, order_made}
 use Rattle.line.proofs.OrderLaws.{line_made}
@@ -76,20 +75,20 @@ pub right_size : (t : List ℕ) → sound_table t ≡ true → eqb (length t) ta
 right_size t s = eq-eqb (length t) table_size (sound_length t s)
 
 -- what a call does to the table, and the order that it takes
-data Outcome (t : List ℕ) : Parsed → List ℕ → Type 0 where
-  leaves : Outcome t Nothing t
-  refuses : (n : ℕ) → Outcome t Nothing (flagged t n)
-  obeys : (o : Order) → order_made o ≡ true → number_of (judge t o) ≡ 0 → Outcome t (Is o) (changed t o)
-  motor : (x : ℕ) (m : Motor) → x ≤ 15 → Outcome t Nothing (with_motor t x m)
-  motors : (f : Motor → Motor) → Outcome t Nothing (with_motors t f)
+data Outcome (t : List ℕ) : Option Order → List ℕ → Type 0 where
+  leaves : Outcome t None t
+  refuses : (n : ℕ) → Outcome t None (flagged t n)
+  obeys : (o : Order) → order_made o ≡ true → number_of (judge t o) ≡ 0 → Outcome t (Some o) (changed t o)
+  motor : (x : ℕ) (m : Motor) → x ≤ 15 → Outcome t None (with_motor t x m)
+  motors : (f : Motor → Motor) → Outcome t None (with_motors t f)
 
 -- Every call on a sound table has such an outcome.
 outcome : (t : List ℕ) (k : Call) → sound_table t ≡ true → Outcome t (order_taken t k) (after urqolina t k).table
 unfolding order_taken after refused obeyed
 outcome t (command line reply) s =
     sound_ways (λ a p. Outcome t p a.table) t line reply s leaves (λ h. refuses (number_of (verdict t (order_in t line)))) (λ o e z. obeys o (rw e at (line_made line)) z)
-outcome t (reading x n) s = reading_ways (λ a. Outcome t Nothing a.table) t x n (λ k i. leaves) (λ o h. motor x (switch_read (motor_at t x) n) h)
-outcome t (tick p) s = tick_ways (λ a. Outcome t Nothing a.table) t p (λ k i. leaves) (λ o. motors (λ m. (tick_motor m).motor))
+outcome t (reading x n) s = reading_ways (λ a. Outcome t None a.table) t x n (λ k i. leaves) (λ o h. motor x (switch_read (motor_at t x) n) h)
+outcome t (tick p) s = tick_ways (λ a. Outcome t None a.table) t p (λ k i. leaves) (λ o. motors (λ m. (tick_motor m).motor))
 
 -- what is known of an order that a call takes
 record Takes (t u : List ℕ) (o : Order) : Type 0 where
@@ -98,13 +97,13 @@ record Takes (t u : List ℕ) (o : Order) : Type 0 where
   table : u ≡ changed t o
 
 -- Only a line that is obeyed takes an order.
-no_order : {A : Type 0} {o : Order} → Nothing ≡ Is o → A
+no_order : {A : Type 0} {o : Order} → None ≡ Some o → A
 no_order e = let z : ◌≡◌ {A = ℕ} 0 1 = cc in absurd (omega arith)
 
-takes : (t : List ℕ) (k : Call) (o : Order) → sound_table t ≡ true → order_taken t k ≡ Is o → Takes t (after urqolina t k).table o
+takes : (t : List ℕ) (k : Call) (o : Order) → sound_table t ≡ true → order_taken t k ≡ Some o → Takes t (after urqolina t k).table o
 takes t k o s = go (outcome t k s)
   where
-    go : {p : Parsed} {u : List ℕ} → Outcome t p u → p ≡ Is o → Takes t u o
+    go : {p : Option Order} {u : List ℕ} → Outcome t p u → p ≡ Some o → Takes t u o
     go leaves e = no_order e
     go (refuses n) e = no_order e
     go (obeys q m j) e = record { made = cc; judged = cc; table = cc }
@@ -112,7 +111,7 @@ takes t k o s = go (outcome t k s)
     go (motors f) e = no_order e
 
 -- An order that is accepted and changes nothing answers its text.
-pub asked : (t line reply : List ℕ) (o : Order) (text : List ℕ) → sound_table t ≡ true → 32 ≤ length reply → order_in t line ≡ Is o
+pub asked : (t line reply : List ℕ) (o : Order) (text : List ℕ) → sound_table t ≡ true → 32 ≤ length reply → order_in t line ≡ Some o
     → judge t o ≡ Done → changed t o ≡ t → answer t o ≡ text
     → after urqolina t (command line reply) ≡ record { result = 256 * length text; table = t; buffer = put reply 0 text }
 unfolding after command_call taken obeyed number_of
@@ -139,7 +138,7 @@ fits_range : (m : Motor) (s : Setting) → Fits m (sets s) → setting_in_range 
 fits_range m s (fits_set _ still h made) = h
 
 -- Every accepted setting leaves that,
-settles : (t : List ℕ) (k : Call) (x : ℕ) (s : Setting) → sound_table t ≡ true → order_taken t k ≡ Is (Set x s)
+settles : (t : List ℕ) (k : Call) (x : ℕ) (s : Setting) → sound_table t ≡ true → order_taken t k ≡ Some (Set x s)
     → Settled (after urqolina t k).table x s
 unfolding order_made deed_of performed
 settles t k x s o e =
@@ -210,7 +209,7 @@ module _ (t : List ℕ) (s : sound_table t ≡ true) (i : ℕ) (l : eqb 2 i ≡ 
   call_field : (k : Call) → changes_head i t k ≡ false → field i (head_of (after urqolina t k).table) ≡ field i (head_of t)
   call_field k = go (outcome t k s)
     where
-      go : {p : Parsed} {u : List ℕ} → Outcome t p u → is_some (writes_field i) p ≡ false → field i (head_of u) ≡ field i (head_of t)
+      go : {p : Option Order} {u : List ℕ} → Outcome t p u → is_some (writes_field i) p ≡ false → field i (head_of u) ≡ field i (head_of t)
       go leaves e = refl
       go (refuses n) e = unfold flagged in written t _ whole (errors_field (head_of t) (with_bit (flag_bit n) (head_of t).errors) i l)
       go (obeys o m j) e = order_field o m e
@@ -275,11 +274,11 @@ reads_back b ks k later line reply enough =
     sound : sound_table u ≡ true
     sound = (next t k start).sound
 
-    read : (o : Order) (text : List ℕ) → order_in v line ≡ Is o → judge v o ≡ Done → changed v o ≡ v → answer v o ≡ text
+    read : (o : Order) (text : List ℕ) → order_in v line ≡ Some o → judge v o ≡ Done → changed v o ≡ v → answer v o ≡ text
         → after urqolina v (command line reply) ≡ record { result = 256 * length text; table = v; buffer = put reply 0 text }
     read o text q j c a = asked v line reply o text (run_sound u later sound) enough q j c a
 
-    kept : (i : ℕ) (o : HeadOrder) (n : ℕ) → eqb 2 i ≡ false → order_taken t k ≡ Is (ForHead o) → field i (head_changed (head_of t) o) ≡ n
+    kept : (i : ℕ) (o : HeadOrder) (n : ℕ) → eqb 2 i ≡ false → order_taken t k ≡ Some (ForHead o) → field i (head_changed (head_of t) o) ≡ n
         → never urqolina (changes_head i) u later ≡ true → field i (head_of v) ≡ n
     kept i o n h e c w =
         field_on u later i n h sound w (rw ((takes t k (ForHead o) start e).table, head_back (motors_freed t o) (head_changed (head_of t) o) (freed_length t o (sound_length t start))) c)

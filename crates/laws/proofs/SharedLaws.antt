@@ -1,4 +1,5 @@
 -- Demand 3 over the number of motors that may be busy: one proof for both cards. Assumes nothing.
+use Rattle.std.specs.Prelude.{Option, Some, None}
 use mathlib.Core.Path.{◌≡◌, refl, sym, ◌∙◌}
 use mathlib.Core.List.{List, [], ◌∷◌}
 use mathlib.Core.Bool.{Bool, true, false, ◌&&◌, cond}
@@ -19,7 +20,6 @@ use Rattle.drive.proofs.KeptSound.{full_refuses}
 use Rattle.line.specs.declared.Start.{Start}
 use Rattle.line.specs.declared.HeadQuestion.TheVariants.{AskFree}
 use Rattle.line.specs.declared.Order.TheVariants.{Go, AskHead}
-use Rattle.line.specs.declared.Parsed.TheVariants.{Is, Nothing}
 use Rattle.line.specs.Forms.{order_of, asks_on, has_form}
 use Rattle.line.specs.Made.{on_bench, start_made, order_made}
 use Rattle.line.proofs.OrderLaws.{line_made}
@@ -102,7 +102,7 @@ module _ (b : Beginning) (ks : List Call) where
   sizes : (reply : List ℕ) → 32 ≤ length reply → (eqb (length t) table_size && leb 32 (length reply)) ≡ true
   sizes reply h = rw (right_size t s) (le-leb 32 (length reply) h)
 
-  gate : (line reply : List ℕ) (x : ℕ) (st : Start) → 32 ≤ length reply → order_of line ≡ Is (Go x st) → judge_where false t (Go x st) ≡ Done
+  gate : (line reply : List ℕ) (x : ℕ) (st : Start) → 32 ≤ length reply → order_of line ≡ Some (Go x st) → judge_where false t (Go x st) ≡ Done
       → sets_off (motor_at t x) st ≡ true → (urqolina.command t line reply).result % 256 ≡ cond (eqb (driving urqolina b ks) (most urqolina b ks)) 14 0
   unfolding has_form judge
   gate line reply x st h q j off =
@@ -110,7 +110,7 @@ module _ (b : Beginning) (ks : List Call) where
       let number = rw (in_form t line (Go x st) q refl) at (line_number t line reply (sizes reply h) s) in
       rw (number, ← full_now) (by_card t x st s made j off (card_full (head_of t)))
 
-  free : (line reply : List ℕ) → 32 ≤ length reply → order_of line ≡ Is (AskHead AskFree) → b.card ≡ 1
+  free : (line reply : List ℕ) → 32 ≤ length reply → order_of line ≡ Some (AskHead AskFree) → b.card ≡ 1
       → let text = mode_letter (head_of t).mode ∷ digit_byte (4 - driving urqolina b ks) ∷ [] in
       after urqolina t (command line reply) ≡ record { result = 512; table = t; buffer = put reply 0 text }
   unfolding has_form asks_on judge judge_where needs_remote value_in_range meets_busy judge_motor changed answer head_text free_text
@@ -118,11 +118,11 @@ module _ (b : Beginning) (ks : List Call) where
       let four : (head_of t).card ≡ 1 = card ∙ e in
       asked t line reply (AskHead AskFree) _ s h (in_form t line (AskHead AskFree) q (rw four)) refl refl (rw word)
 
-  formless : (line reply : List ℕ) → 32 ≤ length reply → order_of line ≡ Is (AskHead AskFree) → b.card ≡ 0 → (urqolina.command t line reply).result % 256 ≡ 1
+  formless : (line reply : List ℕ) → 32 ≤ length reply → order_of line ≡ Some (AskHead AskFree) → b.card ≡ 0 → (urqolina.command t line reply).result % 256 ≡ 1
   unfolding has_form asks_on number_of
   formless line reply h q e =
       let sixteen : (head_of t).card ≡ 0 = card ∙ e in
-      let none : order_in t line ≡ Nothing = rw (q, sixteen) in
+      let none : order_in t line ≡ None = rw (q, sixteen) in
       rw none at (line_number t line reply (sizes reply h) s)
 
   pub shared_so : Shared urqolina b ks

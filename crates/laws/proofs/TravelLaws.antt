@@ -1,4 +1,5 @@
 -- The counts of a pulse buffer and the way of a channel, deed by deed. Assumes nothing.
+use Rattle.std.specs.Prelude.{Option, Some, None}
 use mathlib.Core.Path.{◌≡◌, refl, sym, ap, ◌∙◌}
 use mathlib.Core.List.{List}
 use mathlib.Core.Bool.{Bool, true, false, ◌&&◌, cond, false≢true}
@@ -26,8 +27,6 @@ use Rattle.line.specs.declared.HeadOrder.{HeadOrder}
 use Rattle.line.specs.declared.HeadOrder.TheVariants.{Mode, AllReply, ClearErrors, ClearError, Pause}
 use Rattle.line.specs.declared.Order.{Order}
 use Rattle.line.specs.declared.Order.TheVariants.{Go, Stop, StopAll, ChangeSpeed, Set, Ask, AskHead, ForHead}
-use Rattle.line.specs.declared.Parsed.{Parsed}
-use Rattle.line.specs.declared.Parsed.TheVariants.{Is, Nothing}
 use Rattle.orders.specs.Settings.{course_of, with_setting}
 use Rattle.drive.specs.Numbers.{number_of}
 use Rattle.table.specs.Layout.{table_size, motor_at}
@@ -135,9 +134,9 @@ order_tick c (Ask x q) = refl
 order_tick c (AskHead q) = refl
 order_tick c (ForHead h) = head_tick h
 
-pub taken_tick : (c : ℕ) (p : Parsed) → is_tick (deed_taken c p) ≡ false
-taken_tick c (Is o) = order_tick c o
-taken_tick c Nothing = unfold is_tick in refl
+pub taken_tick : (c : ℕ) (p : Option Order) → is_tick (deed_taken c p) ≡ false
+taken_tick c (Some o) = order_tick c o
+taken_tick c None = unfold is_tick in refl
 
 pub tick_count_law : (t : List ℕ) (k : Call) (c : ℕ) → sound_table t ≡ true → c ≤ 15 → deed c t k ≡ ticks → count_at (after urqolina t k).buffer c ≡ tick_count (motor_at t c)
 unfolding after deed is_tick

@@ -1,4 +1,5 @@
 -- What a line that finds things as it would make them leaves: the table as it was. Assumes nothing.
+use Rattle.std.specs.Prelude.{Option, Some, None}
 use mathlib.Core.Path.{◌≡◌, refl, sym, ◌∙◌}
 use mathlib.Core.List.{List}
 use mathlib.Core.Bool.{Bool, true, false, cond, false≢true}
@@ -17,8 +18,6 @@ use Rattle.line.specs.declared.HeadOrder.{HeadOrder}
 use Rattle.line.specs.declared.HeadOrder.TheVariants.{Mode, AllReply, ClearErrors, ClearError, Pause}
 use Rattle.line.specs.declared.Order.{Order}
 use Rattle.line.specs.declared.Order.TheVariants.{Go, Stop, StopAll, ChangeSpeed, Set, Ask, AskHead, ForHead}
-use Rattle.line.specs.declared.Parsed.{Parsed}
-use Rattle.line.specs.declared.Parsed.TheVariants.{Is, Nothing}
 use Rattle.line.specs.Forms.{order_of}
 use Rattle.line.specs.Made.{order_made}
 use Rattle.line.proofs.OrderLaws.{line_made}
@@ -87,9 +86,9 @@ module _ (t : List ℕ) (s : sound_table t ≡ true) (bytes : AllBytes t) where
   idle_back (ForHead o) made e = head_back_whole o e
 
 -- the table after what a line is, were it accepted
-abbrev obeyed_table : List ℕ → Parsed → List ℕ
-obeyed_table t (Is o) = changed t o
-obeyed_table t Nothing = t
+abbrev obeyed_table : List ℕ → Option Order → List ℕ
+obeyed_table t (Some o) = changed t o
+obeyed_table t None = t
 
 pub unchanged : Unchanged urqolina
 unfolding obeyed

@@ -1,5 +1,6 @@
 -- What demand 2 makes of a call, by the documents' rules alone: which calls are accepted, and what an accepted one is to a
 -- channel. The table is a sound one, as it is after every sequence.
+use Rattle.std.specs.Prelude.{Option, Some, None}
 use Rattle.std.specs.Prelude.{ℕ, List, Bool, true, false, ◌&&◌, cond, length, eqb, leb}
 use Rattle.drive.specs.declared.Verdict.{Verdict}
 use Rattle.drive.specs.declared.Verdict.TheVariants.{NoForm}
@@ -9,27 +10,25 @@ use Rattle.line.specs.declared.HeadOrder.{HeadOrder}
 use Rattle.line.specs.declared.HeadOrder.TheVariants.{Mode, AllReply, ClearErrors, ClearError, Pause}
 use Rattle.line.specs.declared.Order.{Order}
 use Rattle.line.specs.declared.Order.TheVariants.{Go, Stop, StopAll, ChangeSpeed, Set, Ask, AskHead, ForHead}
-use Rattle.line.specs.declared.Parsed.{Parsed}
-use Rattle.line.specs.declared.Parsed.TheVariants.{Is, Nothing}
 use Rattle.commands.specs.Judging.{judge}
 use Rattle.obeying.specs.Taking.{accepted, order_in}
 use Rattle.laws.specs.Sequences.{Call, command, reading, tick}
 
 -- the verdict on what a line is: "1 | .. | the line has none of the forms above", or what the rules judge
-abbrev pub verdict : List ℕ → Parsed → Verdict
-verdict t (Is o) = judge t o
-verdict t Nothing = NoForm
+abbrev pub verdict : List ℕ → Option Order → Verdict
+verdict t (Some o) = judge t o
+verdict t None = NoForm
 
 -- the order of a line, where the rules accept it: "0 | OK | done"
-abbrev pub order_passed : List ℕ → Parsed → Parsed
-order_passed t (Is o) = cond (accepted (judge t o)) (Is o) Nothing
-order_passed t Nothing = Nothing
+abbrev pub order_passed : List ℕ → Option Order → Option Order
+order_passed t (Some o) = cond (accepted (judge t o)) (Some o) None
+order_passed t None = None
 
 -- the order that a call carries out: none with a "reply buffer under 32", and none but a command's
-unfoldable pub order_taken : List ℕ → Call → Parsed
-order_taken t (command line reply) = cond (leb 32 (length reply)) (order_passed t (order_in t line)) Nothing
-order_taken t (reading x n) = Nothing
-order_taken t (tick p) = Nothing
+unfoldable pub order_taken : List ℕ → Call → Option Order
+order_taken t (command line reply) = cond (leb 32 (length reply)) (order_passed t (order_in t line)) None
+order_taken t (reading x n) = None
+order_taken t (tick p) = None
 
 -- an order names channel x
 unfoldable pub names : ℕ → Order → Bool
@@ -86,9 +85,9 @@ deed_of c (AskHead q) = rests
 deed_of c (ForHead h) = head_deed h
 
 -- what is carried out is to channel c what its order is; nothing carried out is nothing
-abbrev pub deed_taken : ℕ → Parsed → Deed
-deed_taken c (Is o) = deed_of c o
-deed_taken c Nothing = rests
+abbrev pub deed_taken : ℕ → Option Order → Deed
+deed_taken c (Some o) = deed_of c o
+deed_taken c None = rests
 
 -- what a call is to channel c: a reading is accepted with "contacts" up to 7, a tick with a pulse buffer of 64 bytes
 unfoldable pub deed : ℕ → List ℕ → Call → Deed

@@ -1,4 +1,5 @@
 -- Demands 1 and 2, the numbers and the replies of the calls, on any table whatever it holds.
+use Rattle.std.specs.Prelude.{Option, Some, None}
 use Rattle.std.specs.Prelude.{◌≡◌, List, [], Bool, true, false, ◌&&◌, ℕ, ◌+◌, ◌*◌, ◌%◌, ◌≤◌, length, eqb, leb}
 use Rattle.digits.specs.Bytes.{put}
 use Rattle.drive.specs.Numbers.{number_of, is_silent, is_refusal}
@@ -8,7 +9,6 @@ use Rattle.line.specs.declared.Question.{Question}
 use Rattle.line.specs.declared.HeadQuestion.{HeadQuestion}
 use Rattle.line.specs.declared.Order.{Order}
 use Rattle.line.specs.declared.Order.TheVariants.{Go, Stop, StopAll, ChangeSpeed, Set, Ask, AskHead, ForHead}
-use Rattle.line.specs.declared.Parsed.TheVariants.{Is, Nothing}
 use Rattle.line.specs.Forms.{order_of}
 use Rattle.replies.specs.Replies.{echo, question_text, head_text}
 use Rattle.table.specs.Layout.{table_size, head_of, motor_at, with_motor, with_motors, fresh_table}
@@ -61,9 +61,9 @@ pub record Numbers (l : Library) : Type 0 where
   pub unsound : (t : List ℕ) (k : Call) → sizes_right t k ≡ true → sound_table t ≡ false → after l t k ≡ record { result = 6; table = t; buffer = lent k }
   -- "1, local mode, value, busy, target out of range .., the other causes of 4", which are split (02 §5): what the rules judge. The table's
   -- card decides which lines have a form (02 §7)
-  pub formless : (t line reply : List ℕ) → sizes_right t (command line reply) ≡ true → sound_table t ≡ true → order_in t line ≡ Nothing
+  pub formless : (t line reply : List ℕ) → sizes_right t (command line reply) ≡ true → sound_table t ≡ true → order_in t line ≡ None
       → (l.command t line reply).result % 256 ≡ 1
-  pub judged : (t line reply : List ℕ) (o : Order) → sizes_right t (command line reply) ≡ true → sound_table t ≡ true → order_in t line ≡ Is o
+  pub judged : (t line reply : List ℕ) (o : Order) → sizes_right t (command line reply) ≡ true → sound_table t ≡ true → order_in t line ≡ Some o
       → (l.command t line reply).result % 256 ≡ number_of (judge t o)
   -- a reading and a tick have nothing more to refuse
   pub done : (t : List ℕ) (k : Call) → is_command k ≡ false → sizes_right t k ≡ true → sound_table t ≡ true → (after l t k).result ≡ 0
@@ -80,8 +80,8 @@ pub record Numbers (l : Library) : Type 0 where
   pub nothing : (t : List ℕ) (k : Call) (n : ℕ) → is_silent n ≡ true → (after l t k).result % 256 ≡ n
       → after l t k ≡ record { result = n; table = t; buffer = lent k }
   -- the orders that `Deeds` takes for accepted are those that get 0
-  pub accepts : (t line reply : List ℕ) (o : Order) → sound_table t ≡ true → order_taken t (command line reply) ≡ Is o → (l.command t line reply).result % 256 ≡ 0
-  pub refuses : (t line reply : List ℕ) → sound_table t ≡ true → order_taken t (command line reply) ≡ Nothing → (l.command t line reply).result % 256 ≡ 0 → ⊥
+  pub accepts : (t line reply : List ℕ) (o : Order) → sound_table t ≡ true → order_taken t (command line reply) ≡ Some o → (l.command t line reply).result % 256 ≡ 0
+  pub refuses : (t line reply : List ℕ) → sound_table t ≡ true → order_taken t (command line reply) ≡ None → (l.command t line reply).result % 256 ≡ 0 → ⊥
 
 -- an order is a read
 unfoldable pub asks : Order → Bool
@@ -98,9 +98,9 @@ asks (ForHead h) = false
 module _ (l : Library) (t line reply : List ℕ) (sound : sound_table t ≡ true) (enough : 32 ≤ length reply) where
   pub record Replies : Type 0 where
     -- "A read's reply is always written": its text from the table, which it leaves
-    pub reads : (x : ℕ) (q : Question) → order_of line ≡ Is (Ask x q) → let text = question_text (head_of t).mode x (motor_at t x) q in
+    pub reads : (x : ℕ) (q : Question) → order_of line ≡ Some (Ask x q) → let text = question_text (head_of t).mode x (motor_at t x) q in
         after l t (command line reply) ≡ record { result = 256 * length text; table = t; buffer = put reply 0 text }
-    pub head_reads : (q : HeadQuestion) → order_in t line ≡ Is (AskHead q) → let text = head_text (head_of t) q in
+    pub head_reads : (q : HeadQuestion) → order_in t line ≡ Some (AskHead q) → let text = head_text (head_of t) q in
         after l t (command line reply) ≡ record { result = 256 * length text; table = t; buffer = put reply 0 text }
     -- "Other commands, and numbers 1 to 4, write their text if all-reply is on after the command, else nothing. Bytes past the reply
     -- stay as they were." 4 "reads as the split numbers" (02 §5).
@@ -111,7 +111,7 @@ module _ (l : Library) (t line reply : List ℕ) (sound : sound_table t ≡ true
 -- Demand 2, what an accepted call changes, on any sound table
 pub record Changes (l : Library) : Type 0 where
   -- "what each changes": the table after an order that the rules accept
-  pub orders : (t line reply : List ℕ) (o : Order) → sizes_right t (command line reply) ≡ true → sound_table t ≡ true → order_in t line ≡ Is o
+  pub orders : (t line reply : List ℕ) (o : Order) → sizes_right t (command line reply) ≡ true → sound_table t ≡ true → order_in t line ≡ Some o
       → number_of (judge t o) ≡ 0 → (l.command t line reply).table ≡ changed t o
   -- "A switch reading replaces the contacts", and may end the drive
   pub readings : (t : List ℕ) (c n : ℕ) → sizes_right t (reading c n) ≡ true → sound_table t ≡ true

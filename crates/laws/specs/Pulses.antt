@@ -1,4 +1,5 @@
 -- Demand 3, over any sequence of calls after a fresh one, and when a drive ends.
+use Rattle.std.specs.Prelude.{Option, Some, None}
 use Rattle.std.specs.Prelude.{◌≡◌, List, [], ◌∷◌, Bool, true, false, not, cond, ℕ, ◌+◌, ◌*◌, ◌-◌, ◌%◌, ◌≤◌, ◌<◌, length, eqb}
 use Rattle.digits.specs.Bytes.{put}
 use Rattle.digits.specs.Words.{how_many, bits_set}
@@ -15,7 +16,6 @@ use Rattle.pulses.specs.Ticks.{rounded_up, to_target, distance_left, room_left}
 use Rattle.line.specs.declared.Start.{Start}
 use Rattle.line.specs.declared.HeadQuestion.TheVariants.{AskFree}
 use Rattle.line.specs.declared.Order.TheVariants.{Go, AskHead}
-use Rattle.line.specs.declared.Parsed.TheVariants.{Is}
 use Rattle.line.specs.Forms.{order_of}
 use Rattle.status.specs.Status.{mode_letter}
 use Rattle.table.specs.Layout.{head_of, paused, most_busy, motor_at}
@@ -124,13 +124,13 @@ module _ (l : Library) (b : Beginning) (ks : List Call) where
     pub few : driving ≤ most
     -- "decides whether a start is taken": one that passes every other check, and sets its channel off, is 14 exactly where so many have a
     -- drive, and else it is taken
-    pub gate : (line reply : List ℕ) (x : ℕ) (s : Start) → 32 ≤ length reply → order_of line ≡ Is (Go x s) → judge_where false (ran l b ks) (Go x s) ≡ Done
+    pub gate : (line reply : List ℕ) (x : ℕ) (s : Start) → 32 ≤ length reply → order_of line ≡ Some (Go x s) → judge_where false (ran l b ks) (Go x s) ≡ Done
         → sets_off (motor_at (ran l b ks) x) s ≡ true → (l.command (ran l b ks) line reply).result % 256 ≡ cond (eqb driving most) 14 0
     -- "`STQ?` .. answers R or L and four less that number. On the sixteen card it is 1"
-    pub free : (line reply : List ℕ) → 32 ≤ length reply → order_of line ≡ Is (AskHead AskFree) → b.card ≡ 1
+    pub free : (line reply : List ℕ) → 32 ≤ length reply → order_of line ≡ Some (AskHead AskFree) → b.card ≡ 1
         → let text = mode_letter (head_of (ran l b ks)).mode ∷ digit_byte (4 - driving) ∷ [] in
         after l (ran l b ks) (command line reply) ≡ record { result = 512; table = ran l b ks; buffer = put reply 0 text }
-    pub formless : (line reply : List ℕ) → 32 ≤ length reply → order_of line ≡ Is (AskHead AskFree) → b.card ≡ 0
+    pub formless : (line reply : List ℕ) → 32 ≤ length reply → order_of line ≡ Some (AskHead AskFree) → b.card ≡ 0
         → (l.command (ran l b ks) line reply).result % 256 ≡ 1
     -- "the number of set bits in the busy word": the word that the head holds agrees, and so does its card
     pub word : bits_set (head_of (ran l b ks)).busy ≡ driving

@@ -1,5 +1,6 @@
 -- Demand 2: "An accepted setting reads back with its value until something changes it." What each setting is read back by, the
 -- bytes of the answer as the line wrote them, and what changes it.
+use Rattle.std.specs.Prelude.{Option, Some, None}
 use Rattle.std.specs.Prelude.{ℕ, ◌+◌, ◌*◌, ◌≤◌, List, [], ◌∷◌, ◌++◌, Bool, true, false, not, cond, eqb, ◌≡◌, length, get_or}
 use Rattle.text.specs.Text.{digit_byte, bytes}
 use Rattle.replies.specs.Replies.{speed_text, selected_text, question_text}
@@ -13,8 +14,6 @@ use Rattle.line.specs.declared.HeadOrder.{HeadOrder}
 use Rattle.line.specs.declared.HeadOrder.TheVariants.{Mode, AllReply, ClearErrors, ClearError, Pause}
 use Rattle.line.specs.declared.Order.{Order}
 use Rattle.line.specs.declared.Order.TheVariants.{Go, Stop, StopAll, ChangeSpeed, Set, Ask, AskHead, ForHead}
-use Rattle.line.specs.declared.Parsed.{Parsed}
-use Rattle.line.specs.declared.Parsed.TheVariants.{Is, Nothing}
 use Rattle.orders.specs.Settings.{place_written}
 use Rattle.laws.specs.Sequences.{Library, Call, after, command, After, run, Beginning, ran, never}
 use Rattle.laws.specs.Deeds.{Deed, starts, stops, speeds, sets, reads, ticks, pauses, rests, order_taken, deed}
@@ -101,9 +100,9 @@ writes_field i (AskHead q) = false
 writes_field i (ForHead h) = eqb (head_topic h) i
 
 -- a test of an order, where there is one
-abbrev pub is_some : (Order → Bool) → Parsed → Bool
-is_some test (Is o) = test o
-is_some test Nothing = false
+abbrev pub is_some : (Order → Bool) → Option Order → Bool
+is_some test (Some o) = test o
+is_some test None = false
 
 -- a call takes an order that writes a field of the head
 abbrev pub changes_head : ℕ → List ℕ → Call → Bool
@@ -120,26 +119,26 @@ module _ (l : Library) (b : Beginning) (ks : List Call) (k : Call) (later : List
 
   pub record ReadsBack : Type 0 where
     -- PS, FL, BL, SPDH, SPDM and SPDL with and without a number, SETLS and SETMT
-    pub setting : (x : ℕ) (s : Setting) → order_taken (ran l b ks) k ≡ Is (Set x s) → never l (changes l x s) table_set later ≡ true
-        → order_of line ≡ Is (Ask x (question_for s)) → after l (run l table_set later) (command line reply) ≡ answered (text_for s)
+    pub setting : (x : ℕ) (s : Setting) → order_taken (ran l b ks) k ≡ Some (Set x s) → never l (changes l x s) table_set later ≡ true
+        → order_of line ≡ Some (Ask x (question_for s)) → after l (run l table_set later) (command line reply) ≡ answered (text_for s)
     -- and it is what the table holds, in the field that document 01 gives it
-    pub held : (x : ℕ) (s : Setting) → order_taken (ran l b ks) k ≡ Is (Set x s) → never l (changes l x s) table_set later ≡ true
+    pub held : (x : ℕ) (s : Setting) → order_taken (ran l b ks) k ≡ Some (Set x s) → never l (changes l x s) table_set later ≡ true
         → (n : ℕ) → question_text n x (motor_at (run l table_set later) x) (question_for s) ≡ text_for s
     -- ALL_REP EN and DS
-    pub reply_held : (n : ℕ) → order_taken (ran l b ks) k ≡ Is (ForHead (AllReply n)) → never l (changes_head 1) table_set later ≡ true
+    pub reply_held : (n : ℕ) → order_taken (ran l b ks) k ≡ Some (ForHead (AllReply n)) → never l (changes_head 1) table_set later ≡ true
         → (head_of (run l table_set later)).reply ≡ n
-    pub all_reply : (n : ℕ) → order_taken (ran l b ks) k ≡ Is (ForHead (AllReply n)) → never l (changes_head 1) table_set later ≡ true
-        → order_of line ≡ Is (AskHead AskAllReply) → after l (run l table_set later) (command line reply) ≡ answered (cond (eqb n 1) (bytes "EN") (bytes "DS"))
+    pub all_reply : (n : ℕ) → order_taken (ran l b ks) k ≡ Some (ForHead (AllReply n)) → never l (changes_head 1) table_set later ≡ true
+        → order_of line ≡ Some (AskHead AskAllReply) → after l (run l table_set later) (command line reply) ≡ answered (cond (eqb n 1) (bytes "EN") (bytes "DS"))
     -- LOC and REM: the first letter of any channel's status
-    pub mode_held : (n : ℕ) → order_taken (ran l b ks) k ≡ Is (ForHead (Mode n)) → never l (changes_head 0) table_set later ≡ true
+    pub mode_held : (n : ℕ) → order_taken (ran l b ks) k ≡ Some (ForHead (Mode n)) → never l (changes_head 0) table_set later ≡ true
         → (head_of (run l table_set later)).mode ≡ n
-    pub mode : (n x : ℕ) → order_taken (ran l b ks) k ≡ Is (ForHead (Mode n)) → never l (changes_head 0) table_set later ≡ true
-        → order_of line ≡ Is (Ask x AskStatus) → get_or (after l (run l table_set later) (command line reply)).buffer 0 0 ≡ mode_letter n
+    pub mode : (n x : ℕ) → order_taken (ran l b ks) k ≡ Some (ForHead (Mode n)) → never l (changes_head 0) table_set later ≡ true
+        → order_of line ≡ Some (Ask x AskStatus) → get_or (after l (run l table_set later) (command line reply)).buffer 0 0 ≡ mode_letter n
     -- and by 02 §7 that of `STQ?` on the four-motor card
-    pub mode_free : (n : ℕ) → order_taken (ran l b ks) k ≡ Is (ForHead (Mode n)) → never l (changes_head 0) table_set later ≡ true
-        → b.card ≡ 1 → order_of line ≡ Is (AskHead AskFree) → get_or (after l (run l table_set later) (command line reply)).buffer 0 0 ≡ mode_letter n
+    pub mode_free : (n : ℕ) → order_taken (ran l b ks) k ≡ Some (ForHead (Mode n)) → never l (changes_head 0) table_set later ≡ true
+        → b.card ≡ 1 → order_of line ≡ Some (AskHead AskFree) → get_or (after l (run l table_set later) (command line reply)).buffer 0 0 ≡ mode_letter n
     -- 02 §3: PAUSE ON and OFF, until the next one of them that is accepted
-    pub pause_held : (n : ℕ) → order_taken (ran l b ks) k ≡ Is (ForHead (Pause n)) → never l (changes_head 3) table_set later ≡ true
+    pub pause_held : (n : ℕ) → order_taken (ran l b ks) k ≡ Some (ForHead (Pause n)) → never l (changes_head 3) table_set later ≡ true
         → (head_of (run l table_set later)).pause ≡ n
-    pub pause : (n : ℕ) → order_taken (ran l b ks) k ≡ Is (ForHead (Pause n)) → never l (changes_head 3) table_set later ≡ true
-        → order_of line ≡ Is (AskHead AskPause) → after l (run l table_set later) (command line reply) ≡ answered (cond (eqb n 1) (bytes "ON") (bytes "OFF"))
+    pub pause : (n : ℕ) → order_taken (ran l b ks) k ≡ Some (ForHead (Pause n)) → never l (changes_head 3) table_set later ≡ true
+        → order_of line ≡ Some (AskHead AskPause) → after l (run l table_set later) (command line reply) ≡ answered (cond (eqb n 1) (bytes "ON") (bytes "OFF"))

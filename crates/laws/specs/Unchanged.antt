@@ -1,5 +1,6 @@
 -- Demand 2, what the lines that are done and change nothing leave: the whole table, byte for byte. A demand of its own, beside those that
 -- Demands.antt gathers.
+use Rattle.std.specs.Prelude.{Option, Some, None}
 use Rattle.std.specs.Prelude.{◌≡◌, List, Bool, true, false, not, ℕ, ◌%◌, eqb}
 use Rattle.digits.specs.Bytes.{AllBytes}
 use Rattle.digits.specs.Words.{is_set, how_many}
@@ -8,7 +9,6 @@ use Rattle.line.specs.declared.HeadOrder.{HeadOrder}
 use Rattle.line.specs.declared.HeadOrder.TheVariants.{Mode, AllReply, ClearErrors, ClearError, Pause}
 use Rattle.line.specs.declared.Order.{Order}
 use Rattle.line.specs.declared.Order.TheVariants.{Go, Stop, StopAll, ChangeSpeed, Set, Ask, AskHead, ForHead}
-use Rattle.line.specs.declared.Parsed.TheVariants.{Is}
 use Rattle.line.specs.Forms.{order_of}
 use Rattle.table.specs.declared.head.Head.{Head}
 use Rattle.table.specs.Layout.{head_of, motor_at}
@@ -38,5 +38,5 @@ changes_nothing t (ForHead h) = repeats (head_of t) h
 
 -- On any table, whatever its bytes hold: such a line, where it is 0, leaves every byte of it.
 pub record Unchanged (l : Library) : Type 0 where
-  pub table : (t line reply : List ℕ) (o : Order) → AllBytes t → order_of line ≡ Is o → changes_nothing t o ≡ true → (l.command t line reply).result % 256 ≡ 0
+  pub table : (t line reply : List ℕ) (o : Order) → AllBytes t → order_of line ≡ Some o → changes_nothing t o ≡ true → (l.command t line reply).result % 256 ≡ 0
       → (l.command t line reply).table ≡ t

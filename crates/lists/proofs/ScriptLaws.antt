@@ -1,5 +1,6 @@
 -- 02 §8: "Output is a bench script". Every line that is printed for a list but the last has its form, and its value in range, by
 -- document 01's own rules of lines, or is a T line that *bench* takes; for the last line *bench* prints `?`. Assumes nothing.
+use Rattle.std.specs.Prelude.{Option, Some, None}
 use Prim.Native.Char.{code}
 use mathlib.Core.Path.{◌≡◌, refl, ap}
 use mathlib.Core.List.{List, [], ◌∷◌, ◌++◌, append_assoc, append-nil}
@@ -23,7 +24,6 @@ use Rattle.line.specs.declared.Order.{Order}
 use Rattle.line.specs.declared.Order.TheVariants.{Go, Set}
 use Rattle.line.specs.declared.Start.TheVariants.{Abs, Rel}
 use Rattle.line.specs.declared.Setting.TheVariants.{Select, SetSpeed}
-use Rattle.line.specs.declared.Parsed.TheVariants.{Is}
 use Rattle.line.specs.Shapes.{x, x±d, xd, no_fields, with_channel, with_written, onward, numbered, read_fields, read_channel, read_number, read_signed}
 use Rattle.line.specs.Forms.{row, starting, setting, mspd, forms, fields_as_row, as_row, order_of}
 use Rattle.line.specs.Computing.{computing_line}
@@ -52,14 +52,14 @@ plain_read n h = rw (append-nil (plain_text n)) at (number_back 1 n [] (omega ar
 
 -- each has the form of a row
 setting_row : (c v : ℕ) → c < 16 → v < 10000000000
-    → as_row (row "SPDM" xd (setting (λ f. SetSpeed mspd f.written.digits))) (bytes "SPDM" ++ (hex_digit c ∷ plain_text v)) ≡ Is (Set c (SetSpeed 1 v))
+    → as_row (row "SPDM" xd (setting (λ f. SetSpeed mspd f.written.digits))) (bytes "SPDM" ++ (hex_digit c ∷ plain_text v)) ≡ Some (Set c (SetSpeed 1 v))
 unfolding as_row fields_as_row bytes same read_fields read_channel read_number
 setting_row c v h l =
     let n = length (plain_text v) in
     let all : eqb (5 + n) (length (83 ∷ 80 ∷ 68 ∷ 77 ∷ hex_digit c ∷ plain_text v)) ≡ true = eq-eqb (5 + n) (length (83 ∷ 80 ∷ 68 ∷ 77 ∷ hex_digit c ∷ plain_text v)) (omega arith) in
     rw ((hex_back c h).0, (hex_back c h).1, plain_read v l, all)
 
-select_row : (c : ℕ) → c < 16 → as_row (row "SPDM" x (setting (λ f. Select mspd))) (bytes "SPDM" ++ (hex_digit c ∷ [])) ≡ Is (Set c (Select 1))
+select_row : (c : ℕ) → c < 16 → as_row (row "SPDM" x (setting (λ f. Select mspd))) (bytes "SPDM" ++ (hex_digit c ∷ [])) ≡ Some (Set c (Select 1))
 unfolding as_row fields_as_row bytes same read_fields read_channel
 select_row c h = rw ((hex_back c h).0, (hex_back c h).1)
 
@@ -91,33 +91,33 @@ signed_fields i j k c p h l =
     go true d n m e z = ap (λ (q : ℕ). Here (with_written (with_channel no_fields c) false d) q) e
     go false d n m e z = ap (λ (q : ℕ). Here (with_written (with_channel no_fields c) true d) q) e
 
-absolute_row : (c p : ℕ) → c < 16 → p ≤ 4294967295 → as_row (row "ABS" x±d (starting (λ f. Abs f.written))) (bytes "ABS" ++ (hex_digit c ∷ signed_text p)) ≡ Is (Go c (Abs (started c p).written))
+absolute_row : (c p : ℕ) → c < 16 → p ≤ 4294967295 → as_row (row "ABS" x±d (starting (λ f. Abs f.written))) (bytes "ABS" ++ (hex_digit c ∷ signed_text p)) ≡ Some (Go c (Abs (started c p).written))
 unfolding as_row fields_as_row bytes same
 absolute_row c p h l = rw (signed_fields 65 66 83 c p h l, eq-eqb _ _ refl)
 
-relative_row : (c p : ℕ) → c < 16 → p ≤ 4294967295 → as_row (row "REL" x±d (starting (λ f. Rel f.written))) (bytes "REL" ++ (hex_digit c ∷ signed_text p)) ≡ Is (Go c (Rel (started c p).written))
+relative_row : (c p : ℕ) → c < 16 → p ≤ 4294967295 → as_row (row "REL" x±d (starting (λ f. Rel f.written))) (bytes "REL" ++ (hex_digit c ∷ signed_text p)) ≡ Some (Go c (Rel (started c p).written))
 unfolding as_row fields_as_row bytes same
 relative_row c p h l = rw (signed_fields 82 69 76 c p h l, eq-eqb _ _ refl)
 
 -- so each is that row's order
-setting_order : (c v : ℕ) → c < 16 → v < 10000000000 → order_of (bytes "SPDM" ++ (hex_digit c ∷ plain_text v)) ≡ Is (Set c (SetSpeed 1 v))
+setting_order : (c v : ℕ) → c < 16 → v < 10000000000 → order_of (bytes "SPDM" ++ (hex_digit c ∷ plain_text v)) ≡ Some (Set c (SetSpeed 1 v))
 unfolding bytes
 setting_order c v h l =
     row_found (take 18 forms) (row "SPDM" xd (setting (λ f. SetSpeed mspd f.written.digits))) (drop 19 forms) (bytes "SPDM" ++ (hex_digit c ∷ plain_text v)) (Set c (SetSpeed 1 v))
     (unfold forms in refl) (omega (arith, decimal_within 1 v (omega arith))) (setting_row c v h l)
 
-select_order : (c : ℕ) → c < 16 → order_of (bytes "SPDM" ++ (hex_digit c ∷ [])) ≡ Is (Set c (Select 1))
+select_order : (c : ℕ) → c < 16 → order_of (bytes "SPDM" ++ (hex_digit c ∷ [])) ≡ Some (Set c (Select 1))
 unfolding bytes
 select_order c h =
     row_found (take 15 forms) (row "SPDM" x (setting (λ f. Select mspd))) (drop 16 forms) (bytes "SPDM" ++ (hex_digit c ∷ [])) (Set c (Select 1)) (unfold forms in refl) (omega arith) (select_row c h)
 
-absolute_order : (c p : ℕ) → c < 16 → p ≤ 4294967295 → order_of (bytes "ABS" ++ (hex_digit c ∷ signed_text p)) ≡ Is (Go c (Abs (started c p).written))
+absolute_order : (c p : ℕ) → c < 16 → p ≤ 4294967295 → order_of (bytes "ABS" ++ (hex_digit c ∷ signed_text p)) ≡ Some (Go c (Abs (started c p).written))
 unfolding bytes
 absolute_order c p h l =
     row_found [] (row "ABS" x±d (starting (λ f. Abs f.written))) (drop 1 forms) (bytes "ABS" ++ (hex_digit c ∷ signed_text p)) (Go c (Abs (started c p).written))
     (unfold forms in refl) (omega (arith, signed_within 1 p (omega arith))) (absolute_row c p h l)
 
-relative_order : (c p : ℕ) → c < 16 → p ≤ 4294967295 → order_of (bytes "REL" ++ (hex_digit c ∷ signed_text p)) ≡ Is (Go c (Rel (started c p).written))
+relative_order : (c p : ℕ) → c < 16 → p ≤ 4294967295 → order_of (bytes "REL" ++ (hex_digit c ∷ signed_text p)) ≡ Some (Go c (Rel (started c p).written))
 unfolding bytes
 relative_order c p h l =
     row_found (take 1 forms) (row "REL" x±d (starting (λ f. Rel f.written))) (drop 2 forms) (bytes "REL" ++ (hex_digit c ∷ signed_text p)) (Go c (Rel (started c p).written))
@@ -129,7 +129,7 @@ relative_order c p h l =
 abbrev Taken : Bool → List ℕ → Type 0
 Taken first l = taken_as l (job_of first l) ≡ true
 
-sent : (first : Bool) (s : List ℕ) (o : Order) → order_of s ≡ Is o → value_in_range o ≡ true → Taken first (code "C" ∷ code " " ∷ s)
+sent : (first : Bool) (s : List ℕ) (o : Order) → order_of s ≡ Some o → value_in_range o ≡ true → Taken first (code "C" ∷ code " " ∷ s)
 unfolding job_of lettered
 sent first s o e v = rw e v
 

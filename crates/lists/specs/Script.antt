@@ -1,7 +1,7 @@
 -- 02 §8: "Output is a bench script": what the printed lines are to *bench*.
+use Rattle.line.specs.declared.Order.{Order}
+use Rattle.std.specs.Prelude.{Option, Some, None}
 use Rattle.std.specs.Prelude.{ℕ, List, [], ◌∷◌, Bool, true, false, ◌&&◌, drop}
-use Rattle.line.specs.declared.Parsed.{Parsed}
-use Rattle.line.specs.declared.Parsed.TheVariants.{Is, Nothing}
 use Rattle.line.specs.Forms.{order_of}
 use Rattle.orders.specs.Values.{value_in_range}
 use Rattle.jobs.specs.declared.Job.{Job}
@@ -9,9 +9,9 @@ use Rattle.jobs.specs.declared.Job.TheVariants.{Send, Touch, Wait, FourMotors, U
 use Rattle.jobs.specs.Jobs.{job_of}
 
 -- a command line has one of the forms, and its value is in its range
-abbrev pub in_form : Parsed → Bool
-in_form (Is o) = value_in_range o
-in_form Nothing = false
+abbrev pub in_form : Option Order → Bool
+in_form (Some o) = value_in_range o
+in_form None = false
 
 -- a line of a script that a list may give: a command line that has its form and its value in range, or ticks
 abbrev pub taken_as : List ℕ → Job → Bool

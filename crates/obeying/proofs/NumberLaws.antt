@@ -1,4 +1,5 @@
 -- The numbers that a line can be answered with: what judges an order gives 0, or the number of a refusal. Assumes nothing.
+use Rattle.std.specs.Prelude.{Option, Some, None}
 use mathlib.Core.Path.{◌≡◌, refl, sym}
 use mathlib.Core.List.{List}
 use mathlib.Core.Bool.{Bool, true, false, ◌&&◌, ◌||◌, not, cond, false≢true}
@@ -18,8 +19,6 @@ use Rattle.drive.proofs.NumberLaws.{numbered}
 use Rattle.drive.specs.Drives.{at_range_end, hindrance, towards, judge_start}
 use Rattle.line.specs.declared.Order.{Order}
 use Rattle.line.specs.declared.Order.TheVariants.{Go, Stop, StopAll, ChangeSpeed, Set, Ask, AskHead, ForHead}
-use Rattle.line.specs.declared.Parsed.{Parsed}
-use Rattle.line.specs.declared.Parsed.TheVariants.{Is, Nothing}
 use Rattle.line.specs.Forms.{has_form, on_card}
 use Rattle.table.specs.Layout.{head_of, card_full, motor_at}
 use Rattle.orders.specs.Values.{needs_remote, value_in_range}
@@ -107,18 +106,18 @@ formed_judged true v e = (refl, e)
 formed_judged false v e = absurd (omega (arith, e))
 
 pub formed_obeyed : (t : List ℕ) (o : Order) (reply : List ℕ) → number_of (cond (has_form (head_of t).card o) (judge t o) NoForm) ≡ 0
-    → taken t (on_card (head_of t).card (Is o)) reply ≡ obeyed t o reply
+    → taken t (on_card (head_of t).card (Some o)) reply ≡ obeyed t o reply
 unfolding taken
 formed_obeyed t o reply e =
     let f = formed_judged (has_form (head_of t).card o) (judge t o) e in
     rw (f.0, eq-eqb (number_of (judge t o)) 0 f.1)
 
 pub formed_refused : (t : List ℕ) (o : Order) (reply : List ℕ)
-    → let v = cond (has_form (head_of t).card o) (judge t o) NoForm in eqb (number_of v) 0 ≡ false → taken t (on_card (head_of t).card (Is o)) reply ≡ refused t v reply
+    → let v = cond (has_form (head_of t).card o) (judge t o) NoForm in eqb (number_of v) 0 ≡ false → taken t (on_card (head_of t).card (Some o)) reply ≡ refused t v reply
 unfolding taken
 formed_refused t o reply = go (has_form (head_of t).card o)
   where
-    go : (b : Bool) → let v = cond b (judge t o) NoForm in eqb (number_of v) 0 ≡ false → taken t (cond b (Is o) Nothing) reply ≡ refused t v reply
+    go : (b : Bool) → let v = cond b (judge t o) NoForm in eqb (number_of v) 0 ≡ false → taken t (cond b (Some o) None) reply ≡ refused t v reply
     go true e = rw e
     go false e = refl
 
@@ -132,10 +131,10 @@ unfolding obeyed number_of
 obeyed_number t o reply = omega arith
 
 -- What a line on a sound table gives is 0, or the number of a refusal.
-pub taken_number : (t : List ℕ) (p : Parsed) (reply : List ℕ) → let n = (taken t p reply).result % 256 in (eqb n 0 || is_refusal n) ≡ true
+pub taken_number : (t : List ℕ) (p : Option Order) (reply : List ℕ) → let n = (taken t p reply).result % 256 in (eqb n 0 || is_refusal n) ≡ true
 unfolding taken
-taken_number t Nothing reply = rw (refused_number t NoForm reply) (unfold number_of in refl)
-taken_number t (Is o) reply = go (eqb (number_of (judge t o)) 0)
+taken_number t None reply = rw (refused_number t NoForm reply) (unfold number_of in refl)
+taken_number t (Some o) reply = go (eqb (number_of (judge t o)) 0)
   where
     go : (b : Bool) → let n = (cond b (obeyed t o reply) (refused t (judge t o) reply)).result % 256 in (eqb n 0 || is_refusal n) ≡ true
     go true = rw (obeyed_number t o reply)

@@ -3,11 +3,10 @@
 
 #![tactic(auto)]
 
-ghost use Rattle.std.specs.Prelude.{◌≡◌, true, ◌+◌, ◌*◌, ◌≤◌, length};
+ghost use Rattle.std.specs.Prelude.{◌≡◌, true, ◌+◌, ◌*◌, ◌≤◌, length, Some};
 ghost use Rattle.drive.specs.Numbers.{number_of};
 ghost use Rattle.drive.specs.declared.Verdict.TheVariants.{Done};
 ghost use Rattle.line.specs.declared.Order.TheVariants.{Ask, AskHead};
-ghost use Rattle.line.specs.declared.Parsed.TheVariants.{Is};
 ghost use Rattle.line.specs.Forms.{on_card};
 ghost use Rattle.line.specs.Made.{order_made, parsed_made};
 ghost use Rattle.orders.specs.Values.{value_in_range};
@@ -22,7 +21,7 @@ use commands::flags::set_flag;
 use commands::judging::judge_order;
 use drive::Verdict;
 use drive::numbers::number_of;
-use line::{HeadQuestion, Order, Parsed, Question};
+use line::{HeadQuestion, Order, Question};
 use replies::{write_echo, write_head_question, write_question};
 use table::head::read_head;
 use table::motor_at;
@@ -91,7 +90,7 @@ fn obey(t: &mut [u8], o: Order, reply: &mut [u8]) -> u32
 // Judges an order, and obeys or refuses it.
 fn take_order(t: &mut [u8], o: Order, reply: &mut [u8]) -> u32
     requires { (sound_table t.old ≡ true) × (32 ≤ length reply.old) × (order_made o ≡ true) }
-    ensures { record { result = result; table = t.new; reply = reply.new } ≡ taken t.old (on_card (head_of t.old).card (Is o)) reply.old }
+    ensures { record { result = result; table = t.new; reply = reply.new } ≡ taken t.old (on_card (head_of t.old).card (Some o)) reply.old }
 {
     let v = judge_order(t, o);
     if number_of(v) == 0 {
@@ -102,12 +101,12 @@ fn take_order(t: &mut [u8], o: Order, reply: &mut [u8]) -> u32
 }
 
 // Takes what a line is: an order, or nothing.
-pub fn take_line(t: &mut [u8], p: Parsed, reply: &mut [u8]) -> u32
+pub fn take_line(t: &mut [u8], p: Option<Order>, reply: &mut [u8]) -> u32
     requires { (sound_table t.old ≡ true) × (32 ≤ length reply.old) × (parsed_made p ≡ true) }
     ensures { record { result = result; table = t.new; reply = reply.new } ≡ taken t.old (on_card (head_of t.old).card p) reply.old }
 {
     match p {
-        Parsed::Is(o) => take_order(t, o, reply),
-        Parsed::Nothing => refuse(t, Verdict::NoForm, reply),
+        Some(o) => take_order(t, o, reply),
+        None => refuse(t, Verdict::NoForm, reply),
     }
 }

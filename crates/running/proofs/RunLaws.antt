@@ -1,4 +1,5 @@
 -- What running a line goes by: how long a text is, and what the jobs of a line keep within. Assumes nothing.
+use Rattle.std.specs.Prelude.{Option, Some, None}
 use Prim.Native.Char.{code}
 use Prim.Native.Nat.{ℕ, zero, suc, ◌*◌, ◌-◌, ◌/◌, ◌%◌, ◌≤◌, ◌<◌}
 use mathlib.Core.Path.{◌≡◌, refl}
@@ -16,8 +17,6 @@ use Rattle.drive.specs.declared.Verdict.TheVariants.{Done, NoForm, WrongSize, No
 use Rattle.drive.specs.Numbers.{number_of}
 use Rattle.line.specs.declared.Order.{Order}
 use Rattle.line.specs.declared.Order.TheVariants.{Go, Stop, StopAll, ChangeSpeed, Set, Ask, AskHead, ForHead}
-use Rattle.line.specs.declared.Parsed.{Parsed}
-use Rattle.line.specs.declared.Parsed.TheVariants.{Is, Nothing}
 use Rattle.replies.proofs.ReplyLaws.{echo_within, head_within, question_within}
 use Rattle.table.specs.Layout.{table_size, head_of, motor_at}
 use Rattle.table.specs.Sound.{sound_table}
@@ -56,10 +55,10 @@ obeyed_within : (t : List ℕ) (o : Order) (reply : List ℕ) → (obeyed t o re
 unfolding obeyed
 obeyed_within t o reply = omega (arith, (numbered Done).small, answer_within (changed t o) o)
 
-taken_within : (t : List ℕ) (p : Parsed) (reply : List ℕ) → (taken t p reply).result / 256 ≤ 17
+taken_within : (t : List ℕ) (p : Option Order) (reply : List ℕ) → (taken t p reply).result / 256 ≤ 17
 unfolding taken
-taken_within t Nothing reply = refused_within t NoForm reply
-taken_within t (Is o) reply = go (eqb (number_of (judge t o)) 0)
+taken_within t None reply = refused_within t NoForm reply
+taken_within t (Some o) reply = go (eqb (number_of (judge t o)) 0)
   where
     go : (b : Bool) → (cond b (obeyed t o reply) (refused t (judge t o) reply)).result / 256 ≤ 17
     go true = obeyed_within t o reply
