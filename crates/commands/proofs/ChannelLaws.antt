@@ -1,4 +1,5 @@
 -- The channel that an order of a line names is one of the sixteen. Assumes nothing.
+use Rattle.std.specs.Prelude.{Result, Ok, Err}
 use mathlib.Core.Path.{◌≡◌, refl}
 use mathlib.Core.List.{List}
 use mathlib.Core.Bool.{Bool, true, cond}
@@ -10,7 +11,7 @@ use Rattle.line.specs.declared.Order.{Order}
 use Rattle.line.specs.declared.Start.{Start}
 use Rattle.line.specs.declared.Setting.{Setting}
 use Rattle.line.specs.declared.Order.TheVariants.{Go, Stop, StopAll, ChangeSpeed, Set, Ask, AskHead, ForHead}
-use Rattle.drive.specs.declared.Verdict.TheVariants.{Busy, Done}
+use Rattle.drive.specs.declared.Refusal.TheVariants.{Busy}
 use Rattle.commands.specs.Judging.{meets_busy, judge_motor}
 use Rattle.line.specs.Made.{on_bench, start_made, end_flag, setting_made, order_made}
 
@@ -39,7 +40,7 @@ named_channel (ForHead o) h = omega arith
 -- The orders that name no channel to judge, stops, reads and those of the head, are never busy, and nothing of a motor refuses them.
 pub others_done : (full : Bool) (t : List ℕ) (o : Order)
     → ((x : ℕ) (s : Start) → o ≡ Go x s → ⊥) → ((x : ℕ) (v : ℕ) → o ≡ ChangeSpeed x v → ⊥) → ((x : ℕ) (s : Setting) → o ≡ Set x s → ⊥)
-    → cond (meets_busy t o) Busy (judge_motor full t o) ≡ Done
+    → cond (meets_busy t o) (Err Busy) (judge_motor full t o) ≡ (Ok tt)
 unfolding meets_busy judge_motor
 others_done full t (Go x s) a b d = absurd (a x s refl)
 others_done full t (Stop x flags) a b d = refl

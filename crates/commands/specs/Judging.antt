@@ -1,7 +1,8 @@
 -- Document 01, "Numbers handed back": which verdict an order gets on a sound table.
+use Rattle.std.specs.Prelude.{Result, Ok, Err}
 use Rattle.std.specs.Prelude.{ℕ, List, Bool, false, ◌&&◌, not, cond, eqb}
-use Rattle.drive.specs.declared.Verdict.{Verdict}
-use Rattle.drive.specs.declared.Verdict.TheVariants.{Done, Busy, OutOfRange, LocalMode}
+use Rattle.drive.specs.Numbers.{Verdict}
+use Rattle.drive.specs.declared.Refusal.TheVariants.{Busy, OutOfRange, LocalMode}
 use Rattle.motor.specs.Sound.{busy}
 use Rattle.drive.specs.Drives.{judge_start, judge_speed_change}
 use Rattle.line.specs.declared.Order.{Order}
@@ -25,21 +26,21 @@ meets_busy t (ForHead h) = false
 -- and 13 for SPC. 02 §7: a start's last check is whether as many motors are busy as may be
 unfoldable pub judge_motor : Bool → List ℕ → Order → Verdict
 judge_motor full t (Go x s) = judge_start full (motor_at t x) (course_of (motor_at t x) s)
-judge_motor full t (Stop x e) = Done
-judge_motor full t (StopAll e) = Done
+judge_motor full t (Stop x e) = Ok tt
+judge_motor full t (StopAll e) = Ok tt
 judge_motor full t (ChangeSpeed x v) = judge_speed_change (motor_at t x)
-judge_motor full t (Set x s) = Done
-judge_motor full t (Ask x q) = Done
-judge_motor full t (AskHead q) = Done
-judge_motor full t (ForHead h) = Done
+judge_motor full t (Set x s) = Ok tt
+judge_motor full t (Ask x q) = Ok tt
+judge_motor full t (AskHead q) = Ok tt
+judge_motor full t (ForHead h) = Ok tt
 
 -- "Order: .. local mode, value, busy, target out of range .., the other causes of 4." 02 §3: "Refusals: none new". 02 §5: "7 keeps local
 -- mode's place". This is the verdict where the card is full, or not
 unfoldable pub judge_where : Bool → List ℕ → Order → Verdict
 judge_where full t o =
-    cond (needs_remote o && eqb (head_of t).mode 0) LocalMode
-    (cond (not (value_in_range o)) OutOfRange
-    (cond (meets_busy t o) Busy
+    cond (needs_remote o && eqb (head_of t).mode 0) (Err LocalMode)
+    (cond (not (value_in_range o)) (Err OutOfRange)
+    (cond (meets_busy t o) (Err Busy)
     (judge_motor full t o)))
 
 -- 02 §7: "the number of set bits in the busy word decides whether a start is taken"

@@ -1,9 +1,9 @@
 // How an order is judged on a sound table: whether the card has its form, local mode, the value, busy, what lies in the motor, and for a
 // start whether the card is full.
 
-ghost use Rattle.std.specs.Prelude.{◌≡◌, true, cond, length};
+ghost use Rattle.std.specs.Prelude.{◌≡◌, true, cond, length, Ok, Err};
 ghost use Rattle.motor.specs.Sound.{busy};
-ghost use Rattle.drive.specs.declared.Verdict.TheVariants.{Busy, Done, NoForm};
+ghost use Rattle.drive.specs.declared.Refusal.TheVariants.{Busy, NoForm};
 ghost use Rattle.drive.specs.Drives.{judge_start};
 ghost use Rattle.line.specs.Forms.{has_form};
 ghost use Rattle.line.specs.Made.{order_made};
@@ -12,7 +12,7 @@ ghost use Rattle.orders.specs.Settings.{course_of};
 ghost use Rattle.table.specs.Layout.{table_size, head_of, card_full};
 ghost use Rattle.commands.specs.Judging.{meets_busy, judge_motor, judge};
 
-use drive::{Verdict, judge_speed_change, judge_start};
+use drive::{Refusal, Verdict, judge_speed_change, judge_start};
 use line::cards::has_form;
 use line::{Order, Start};
 use motor::is_busy;
@@ -22,57 +22,54 @@ use record::Motor;
 use table::head::{is_full, read_head};
 use table::motor_at;
 
-// A start: busy on a driving channel, else as the motor allows and then the card.
-fn judge_go(full: bool, m: Motor, s: Start) -> Verdict
-    requires { start_in_range s ≡ true }
-    ensures { result ≡ cond (busy m) Busy (judge_start full m (course_of m s)) }
+// A setting or a selection: busy on a driving channel.
+fn judge_set(m: Motor) -> Verdict
+    ensures { result ≡ cond (busy m) (Err Busy) (Ok tt) }
 {
     if is_busy(m) {
-        Verdict::Busy
+        Err(Refusal::Busy)
     } else {
-        judge_start(full, m, course_of(m, s))
+        Ok(())
     }
 }
 
-// A setting or a selection: busy on a driving channel.
-fn judge_set(m: Motor) -> Verdict
-    ensures { result ≡ cond (busy m) Busy Done }
+// A start: busy on a driving channel too, else as the motor allows and then the card.
+fn judge_go(full: bool, m: Motor, s: Start) -> Verdict
+    requires { start_in_range s ≡ true }
+    ensures { result ≡ cond (busy m) (Err Busy) (judge_start full m (course_of m s)) }
 {
-    if is_busy(m) {
-        Verdict::Busy
-    } else {
-        Verdict::Done
-    }
+    judge_set(m)?;
+    judge_start(full, m, course_of(m, s))
 }
 
 // What is judged of the channel that an order names, if it names one.
 fn judge_channel(t: &[u8], o: Order) -> Verdict
     requires { (length t.now ≡ table_size) × (order_made o ≡ true) × (value_in_range o ≡ true) }
-    ensures { result ≡ cond (meets_busy t.now o) Busy (judge_motor (card_full (head_of t.now)) t.now o) }
+    ensures { result ≡ cond (meets_busy t.now o) (Err Busy) (judge_motor (card_full (head_of t.now)) t.now o) }
 {
     match o {
         Order::Go(x, s) => judge_go(is_full(read_head(t)), motor_at(t, x), s),
         Order::ChangeSpeed(x, _) => judge_speed_change(motor_at(t, x)),
         Order::Set(x, _) => judge_set(motor_at(t, x)),
-        _ => Verdict::Done,
+        _ => Ok(()),
     }
 }
 
 // The verdict of an order: 1 where the table's card has not its form, and else by the rules.
 pub fn judge_order(t: &[u8], o: Order) -> Verdict
     requires { (length t.now ≡ table_size) × (order_made o ≡ true) }
-    ensures { result ≡ cond (has_form (head_of t.now).card o) (judge t.now o) NoForm }
+    ensures { result ≡ cond (has_form (head_of t.now).card o) (judge t.now o) (Err NoForm) }
 {
     let head = read_head(t);
     if !has_form(head.card, o) {
-        return Verdict::NoForm;
+        return Err(Refusal::NoForm);
     }
     if needs_remote(o) & (head.mode == 0) {
-        return Verdict::LocalMode;
+        return Err(Refusal::LocalMode);
     }
     if value_in_range(o) {
         judge_channel(t, o)
     } else {
-        Verdict::OutOfRange
+        Err(Refusal::OutOfRange)
     }
 }

@@ -1,4 +1,5 @@
 -- The rules of a drive computed on cases. Each list is one statement, and its proof is the computation.
+use Rattle.std.specs.Prelude.{Result, Ok, Err}
 use mathlib.Core.Path.{◌≡◌, refl}
 use mathlib.Core.List.{[], ◌∷◌, map}
 use mathlib.Core.Bool.{true, false}
@@ -8,7 +9,7 @@ use Rattle.digits.specs.Places.{origin, lowest, highest, cw, ccw}
 use Rattle.record.specs.declared.Motor.{Motor}
 use Rattle.record.specs.Record.{fresh_motor, with_place, with_limits, with_wiring, with_setup}
 use Rattle.drive.specs.declared.Course.TheVariants.{Stay, Beyond, To, Along}
-use Rattle.drive.specs.declared.Verdict.TheVariants.{Done, NoForm, Busy, OutOfRange, WrongSize, NotSound, LocalMode, Disabled, Unread, SwitchAhead, AtLimit, AtRangeEnd, NotDriving, Full}
+use Rattle.drive.specs.declared.Refusal.TheVariants.{NoForm, Busy, OutOfRange, WrongSize, NotSound, LocalMode, Disabled, Unread, SwitchAhead, AtLimit, AtRangeEnd, NotDriving, Full}
 use Rattle.drive.specs.Numbers.{number_of, is_silent, is_refusal, flag_bit}
 use Rattle.drive.specs.Drives.{course_to, judge_start, well_aimed, started, released, stopped, speed_changed, contacted, switch_read}
 use Rattle.drive.specs.Computing.{computing_drive}
@@ -72,23 +73,23 @@ disabled = with_setup fresh_motor (record { a = 0; b = 1; c = 0; d = 0 })
 -- Starts of a stopped motor as they are judged: to the present place, whatever A says; past the range; with A = 0, unread besides;
 -- onto an active switch; and onto a digital limit.
 starts :
-    (course_to fresh_motor cw origin 0 ≡ Stay) × (judge_start false disabled Stay ≡ Done)
+    (course_to fresh_motor cw origin 0 ≡ Stay) × (judge_start false disabled Stay ≡ (Ok tt))
     × (course_to fresh_motor ccw origin 2147483648 ≡ Beyond) × (course_to fresh_motor cw (origin + 1) 2147483647 ≡ Beyond)
-    × (course_to fresh_motor ccw (origin - 1) 2147483646 ≡ To 1) × (judge_start false disabled Beyond ≡ OutOfRange)
-    × (judge_start false disabled (Along cw) ≡ Disabled) × (judge_start false (wired 0b00010001 0 1) (Along cw) ≡ SwitchAhead)
-    × (judge_start false (wired 0b00010001 0 1) (Along ccw) ≡ Done) × (judge_start false (limited 0 1) (To (origin + 9)) ≡ AtLimit)
-    × (judge_start false (limited 0 1) (To (origin - 9)) ≡ Done)
+    × (course_to fresh_motor ccw (origin - 1) 2147483646 ≡ To 1) × (judge_start false disabled Beyond ≡ (Err OutOfRange))
+    × (judge_start false disabled (Along cw) ≡ (Err Disabled)) × (judge_start false (wired 0b00010001 0 1) (Along cw) ≡ (Err SwitchAhead))
+    × (judge_start false (wired 0b00010001 0 1) (Along ccw) ≡ (Ok tt)) × (judge_start false (limited 0 1) (To (origin + 9)) ≡ (Err AtLimit))
+    × (judge_start false (limited 0 1) (To (origin - 9)) ≡ (Ok tt))
 unfolding computing_drive disabled wired limited
 starts = (refl, refl, refl, refl, refl, refl, refl, refl, refl, refl, refl)
 
 -- 02 §2: an unread motor does not leave, either way, whatever SETLS enables and whatever room there is; to the present place is done,
 -- and past the range is out of range. Read, it leaves, but for what a switch or the room hinders.
 unread_starts :
-    (map (judge_start false fresh_motor) (Along cw ∷ Along ccw ∷ To 1 ∷ To highest ∷ Stay ∷ Beyond ∷ []) ≡ Unread ∷ Unread ∷ Unread ∷ Unread ∷ Done ∷ OutOfRange ∷ [])
-    × (map (λ w. judge_start false (wired w 0 0) (Along cw)) (0 ∷ 0b00010001 ∷ 0b00000001 ∷ []) ≡ Unread ∷ Unread ∷ Unread ∷ [])
-    × (judge_start false (limited 0 0) (Along cw) ≡ Unread)
-    × (map (λ n. judge_start false (switch_read fresh_motor n) (Along cw)) (0 ∷ 1 ∷ 2 ∷ 4 ∷ []) ≡ Done ∷ SwitchAhead ∷ Done ∷ Done ∷ [])
-    × (map (λ n. judge_start false (switch_read fresh_motor n) (Along ccw)) (0 ∷ 1 ∷ 2 ∷ 4 ∷ []) ≡ Done ∷ Done ∷ SwitchAhead ∷ Done ∷ [])
+    (map (judge_start false fresh_motor) (Along cw ∷ Along ccw ∷ To 1 ∷ To highest ∷ Stay ∷ Beyond ∷ []) ≡ (Err Unread) ∷ (Err Unread) ∷ (Err Unread) ∷ (Err Unread) ∷ (Ok tt) ∷ (Err OutOfRange) ∷ [])
+    × (map (λ w. judge_start false (wired w 0 0) (Along cw)) (0 ∷ 0b00010001 ∷ 0b00000001 ∷ []) ≡ (Err Unread) ∷ (Err Unread) ∷ (Err Unread) ∷ [])
+    × (judge_start false (limited 0 0) (Along cw) ≡ (Err Unread))
+    × (map (λ n. judge_start false (switch_read fresh_motor n) (Along cw)) (0 ∷ 1 ∷ 2 ∷ 4 ∷ []) ≡ (Ok tt) ∷ (Err SwitchAhead) ∷ (Ok tt) ∷ (Ok tt) ∷ [])
+    × (map (λ n. judge_start false (switch_read fresh_motor n) (Along ccw)) (0 ∷ 1 ∷ 2 ∷ 4 ∷ []) ≡ (Ok tt) ∷ (Ok tt) ∷ (Err SwitchAhead) ∷ (Ok tt) ∷ [])
 unfolding computing_drive wired limited
 unread_starts = (refl, refl, refl, refl, refl)
 
@@ -104,27 +105,27 @@ at_end a setls read = with_place (with_setup (wired setls 0 read) (record { a = 
 -- of the range, wherever the limit lies; with D = 0; inside the range, with the limit behind, where the motor stands, and ahead; and at
 -- the other end, where the range goes on.
 no_room :
-    (map (λ p. judge_start false (bounded 0b11110000 highest p) (Along cw)) (lowest ∷ origin ∷ highest ∷ []) ≡ replicate 3 AtRangeEnd)
-    × (map (λ p. judge_start false (bounded 0b11110000 lowest p) (Along ccw)) (lowest ∷ origin ∷ highest ∷ []) ≡ replicate 3 AtRangeEnd)
-    × (judge_start false (bounded 0b01110000 highest origin) (Along cw) ≡ AtRangeEnd) × (judge_start false (bounded 0b01110000 lowest origin) (Along ccw) ≡ AtRangeEnd)
-    × (map (λ p. judge_start false (bounded 0b11110000 (origin + 5) p) (Along cw)) (lowest ∷ (origin + 4) ∷ (origin + 5) ∷ (origin + 6) ∷ []) ≡ AtLimit ∷ AtLimit ∷ AtLimit ∷ Done ∷ [])
-    × (map (λ p. judge_start false (bounded 0b11110000 (origin + 5) p) (Along ccw)) (highest ∷ (origin + 6) ∷ (origin + 5) ∷ (origin + 4) ∷ []) ≡ AtLimit ∷ AtLimit ∷ AtLimit ∷ Done ∷ [])
-    × (judge_start false (bounded 0b11110000 lowest lowest) (Along cw) ≡ AtLimit) × (judge_start false (bounded 0b11110000 highest highest) (Along ccw) ≡ AtLimit)
+    (map (λ p. judge_start false (bounded 0b11110000 highest p) (Along cw)) (lowest ∷ origin ∷ highest ∷ []) ≡ replicate 3 (Err AtRangeEnd))
+    × (map (λ p. judge_start false (bounded 0b11110000 lowest p) (Along ccw)) (lowest ∷ origin ∷ highest ∷ []) ≡ replicate 3 (Err AtRangeEnd))
+    × (judge_start false (bounded 0b01110000 highest origin) (Along cw) ≡ (Err AtRangeEnd)) × (judge_start false (bounded 0b01110000 lowest origin) (Along ccw) ≡ (Err AtRangeEnd))
+    × (map (λ p. judge_start false (bounded 0b11110000 (origin + 5) p) (Along cw)) (lowest ∷ (origin + 4) ∷ (origin + 5) ∷ (origin + 6) ∷ []) ≡ (Err AtLimit) ∷ (Err AtLimit) ∷ (Err AtLimit) ∷ (Ok tt) ∷ [])
+    × (map (λ p. judge_start false (bounded 0b11110000 (origin + 5) p) (Along ccw)) (highest ∷ (origin + 6) ∷ (origin + 5) ∷ (origin + 4) ∷ []) ≡ (Err AtLimit) ∷ (Err AtLimit) ∷ (Err AtLimit) ∷ (Ok tt) ∷ [])
+    × (judge_start false (bounded 0b11110000 lowest lowest) (Along cw) ≡ (Err AtLimit)) × (judge_start false (bounded 0b11110000 highest highest) (Along ccw) ≡ (Err AtLimit))
 unfolding computing_drive bounded wired
 no_room = (refl, refl, refl, refl, refl, refl, refl, refl)
 
 -- 02 §5: "Refusals, in this order": a motor with A = 0 that was not read, with its CW switch N.C. and so active, at the end of the range,
 -- and then one cause after the other taken away. Out of range comes before all of them.
 ordered :
-    (judge_start false (at_end 0 0b01110001 0) Beyond ≡ OutOfRange) × (judge_start false (at_end 0 0b01110001 0) (Along cw) ≡ Disabled)
-    × (judge_start false (at_end 1 0b01110001 0) (Along cw) ≡ Unread) × (judge_start false (at_end 1 0b01110001 1) (Along cw) ≡ SwitchAhead)
-    × (judge_start false (at_end 1 0b01110000 1) (Along cw) ≡ AtRangeEnd) × (judge_start false (at_end 1 0b01110000 1) (Along ccw) ≡ Done)
+    (judge_start false (at_end 0 0b01110001 0) Beyond ≡ (Err OutOfRange)) × (judge_start false (at_end 0 0b01110001 0) (Along cw) ≡ (Err Disabled))
+    × (judge_start false (at_end 1 0b01110001 0) (Along cw) ≡ (Err Unread)) × (judge_start false (at_end 1 0b01110001 1) (Along cw) ≡ (Err SwitchAhead))
+    × (judge_start false (at_end 1 0b01110000 1) (Along cw) ≡ (Err AtRangeEnd)) × (judge_start false (at_end 1 0b01110000 1) (Along ccw) ≡ (Ok tt))
 unfolding computing_drive at_end wired
 ordered = (refl, refl, refl, refl, refl, refl)
 
 -- "Numbers handed back", cause by cause, in the order of the lists.
 numbers :
-    map number_of (Done ∷ NoForm ∷ Busy ∷ OutOfRange ∷ WrongSize ∷ NotSound ∷ LocalMode ∷ Disabled ∷ Unread ∷ SwitchAhead ∷ AtLimit ∷ AtRangeEnd ∷ NotDriving ∷ Full ∷ [])
+    map number_of ((Ok tt) ∷ (Err NoForm) ∷ (Err Busy) ∷ (Err OutOfRange) ∷ (Err WrongSize) ∷ (Err NotSound) ∷ (Err LocalMode) ∷ (Err Disabled) ∷ (Err Unread) ∷ (Err SwitchAhead) ∷ (Err AtLimit) ∷ (Err AtRangeEnd) ∷ (Err NotDriving) ∷ (Err Full) ∷ [])
     ≡ 0 ∷ 1 ∷ 2 ∷ 3 ∷ 5 ∷ 6 ∷ 7 ∷ 8 ∷ 9 ∷ 10 ∷ 11 ∷ 12 ∷ 13 ∷ 14 ∷ []
 unfolding computing_drive
 numbers = refl
@@ -138,10 +139,10 @@ courses = refl
 
 -- 02 §7: "a fifth start is 14, after 13": on a full card it is the last of the causes, and what moves nothing does not meet it
 full_card :
-    (map (judge_start true fresh_motor) (Along cw ∷ To 1 ∷ Stay ∷ Beyond ∷ []) ≡ Unread ∷ Unread ∷ Done ∷ OutOfRange ∷ [])
-    × (map (λ n. judge_start true (switch_read fresh_motor n) (Along cw)) (0 ∷ 1 ∷ []) ≡ Full ∷ SwitchAhead ∷ [])
-    × (map (judge_start true (switch_read fresh_motor 0)) (Along ccw ∷ To 1 ∷ Stay ∷ []) ≡ Full ∷ Full ∷ Done ∷ [])
-    × (judge_start true disabled (Along cw) ≡ Disabled) × (judge_start true (limited 0 1) (To (origin + 9)) ≡ AtLimit)
-    × (judge_start true (at_end 1 0b01110000 1) (Along cw) ≡ AtRangeEnd) × (flag_bit 14 ≡ 3)
+    (map (judge_start true fresh_motor) (Along cw ∷ To 1 ∷ Stay ∷ Beyond ∷ []) ≡ (Err Unread) ∷ (Err Unread) ∷ (Ok tt) ∷ (Err OutOfRange) ∷ [])
+    × (map (λ n. judge_start true (switch_read fresh_motor n) (Along cw)) (0 ∷ 1 ∷ []) ≡ (Err Full) ∷ (Err SwitchAhead) ∷ [])
+    × (map (judge_start true (switch_read fresh_motor 0)) (Along ccw ∷ To 1 ∷ Stay ∷ []) ≡ (Err Full) ∷ (Err Full) ∷ (Ok tt) ∷ [])
+    × (judge_start true disabled (Along cw) ≡ (Err Disabled)) × (judge_start true (limited 0 1) (To (origin + 9)) ≡ (Err AtLimit))
+    × (judge_start true (at_end 1 0b01110000 1) (Along cw) ≡ (Err AtRangeEnd)) × (flag_bit 14 ≡ 3)
 unfolding computing_drive disabled limited at_end wired
 full_card = (refl, refl, refl, refl, refl, refl, refl)

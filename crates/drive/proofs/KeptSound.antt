@@ -1,4 +1,5 @@
 -- Each operation on a sound motor leaves a sound motor, and a tick of one is small. Assumes nothing.
+use Rattle.std.specs.Prelude.{Result, Ok, Err}
 use mathlib.Core.Path.{◌≡◌, refl, sym, ◌∙◌}
 use mathlib.Core.Bool.{Bool, true, false, ◌&&◌, ◌||◌, not, cond, false≢true}
 use Prim.Native.Nat.{ℕ, ◌≤◌}
@@ -19,7 +20,8 @@ use Rattle.motor.proofs.SoundLaws.{and_l, and_r, position_bounds, speed_bounds, 
 use Rattle.motor.proofs.RoomLaws.{room_at_end}
 use Rattle.drive.specs.declared.Course.{Course}
 use Rattle.drive.specs.declared.Course.TheVariants.{Stay, Beyond, To, Along}
-use Rattle.drive.specs.declared.Verdict.TheVariants.{Done, Disabled, Unread, SwitchAhead, AtLimit, AtRangeEnd, Full}
+use Rattle.drive.specs.Numbers.{Verdict}
+use Rattle.drive.specs.declared.Refusal.TheVariants.{Disabled, Unread, SwitchAhead, AtLimit, AtRangeEnd, Full}
 use Rattle.drive.specs.Drives.{lsend, speed_numbered, selected_speed, course_to, towards, at_range_end, hindrance, judge_start, well_aimed, launched, started, released, ended_with, stopped, speed_changed, contacted, switch_read}
 
 -- A drive that ends leaves a sound motor, whatever ends it.
@@ -89,13 +91,13 @@ pub record Unhindered (full : Bool) (m : Motor) (going : ℕ) : Type 0 where
   pub leeway : eqb (room going m) 0 ≡ false
   pub spare : full ≡ false
 
-pub nothing_hinders : (full : Bool) (m : Motor) (going : ℕ) → hindrance full m going ≡ Done → Unhindered full m going
+pub nothing_hinders : (full : Bool) (m : Motor) (going : ℕ) → hindrance full m going ≡ (Ok tt) → Unhindered full m going
 unfolding hindrance
 nothing_hinders full m going h =
     let p = go (eqb m.setup.a 0) (unread m.wiring) (blocked going m) (at_range_end m going) (eqb (room going m) 0) full h in
     record { ready = p.0; read = p.1; clear = p.2; leeway = p.3; spare = p.4 }
   where
-    go : (a u b e r f : Bool) → cond a Disabled (cond u Unread (cond b SwitchAhead (cond e AtRangeEnd (cond r AtLimit (cond f Full Done))))) ≡ Done
+    go : (a u b e r f : Bool) → cond {A = Verdict} a (Err Disabled) (cond u (Err Unread) (cond b (Err SwitchAhead) (cond e (Err AtRangeEnd) (cond r (Err AtLimit) (cond f (Err Full) (Ok tt)))))) ≡ (Ok tt)
         → (a ≡ false) × (u ≡ false) × (b ≡ false) × (r ≡ false) × (f ≡ false)
     go true u b e r f h = (cc, cc, cc, cc, cc)
     go false true b e r f h = (refl, cc, cc, cc, cc)
@@ -106,11 +108,11 @@ nothing_hinders full m going h =
     go false false false false false false h = (refl, refl, refl, refl, refl)
 
 -- And nothing else keeps a motor from leaving: at the end of the range there is no room, so 12 refuses no start that 11 would not.
-pub unhindered_leaves : (full : Bool) (m : Motor) (going : ℕ) → Unhindered full m going → hindrance full m going ≡ Done
+pub unhindered_leaves : (full : Bool) (m : Motor) (going : ℕ) → Unhindered full m going → hindrance full m going ≡ (Ok tt)
 unfolding hindrance
 unhindered_leaves full m going u = go (at_range_end m going) refl
   where
-    go : (e : Bool) → at_range_end m going ≡ e → hindrance full m going ≡ Done
+    go : (e : Bool) → at_range_end m going ≡ e → hindrance full m going ≡ (Ok tt)
     go true e = absurd (false≢true (rw (room_at_end going m (eqb-true m.place (range_end going) e)) at (sym u.leeway)))
     go false e = rw (u.ready, u.read, u.clear, e, u.leeway, u.spare)
 
@@ -129,7 +131,7 @@ selected_bounds m r = go (eqb m.speeds.selected 0) (eqb m.speeds.selected 1)
 
 -- An accepted start leaves a sound motor.
 launched_sound :
-    (full paused : Bool) (m : Motor) (going kind target : ℕ) → InRange m → hindrance full m going ≡ Done → 1 ≤ going → going ≤ 2 → kind ≤ 1
+    (full paused : Bool) (m : Motor) (going kind target : ℕ) → InRange m → hindrance full m going ≡ (Ok tt) → 1 ≤ going → going ≤ 2 → kind ≤ 1
     → is_position target ≡ true → aim_right (launched paused m going kind target) ≡ true → sound_motor (launched paused m going kind target) ≡ true
 unfolding room edge blocked
 launched_sound full paused m going kind target r h low high k t a =
@@ -175,7 +177,7 @@ two_ways going = go (eqb going cw) refl (eqb going ccw) refl
     go false t false u e = absurd (false≢true e)
 
 pub started_sound :
-    (full paused : Bool) (m : Motor) (c : Course) → sound_motor m ≡ true → judge_start full m c ≡ Done → well_aimed m c ≡ true → sound_motor (started paused m c) ≡ true
+    (full paused : Bool) (m : Motor) (c : Course) → sound_motor m ≡ true → judge_start full m c ≡ (Ok tt) → well_aimed m c ≡ true → sound_motor (started paused m c) ≡ true
 unfolding started judge_start aim_right
 started_sound full paused m Stay s h a = s
 started_sound full paused m Beyond s h a = s
@@ -187,7 +189,7 @@ started_sound full paused m (Along going) s h a =
     launched_sound full paused m going 0 origin (sound_parts m s).range h t.0 t.1 (omega arith) refl refl
 
 -- A start is taken on a full card only where it moves nothing.
-pub starts_spare : (full paused : Bool) (m : Motor) (c : Course) → judge_start full m c ≡ Done → busy m ≡ false → busy (started paused m c) ≡ true → full ≡ false
+pub starts_spare : (full paused : Bool) (m : Motor) (c : Course) → judge_start full m c ≡ (Ok tt) → busy m ≡ false → busy (started paused m c) ≡ true → full ≡ false
 unfolding started judge_start
 starts_spare full paused m Stay h n y = absurd (false≢true (sym n ∙ y))
 starts_spare full paused m Beyond h n y = absurd (false≢true (sym n ∙ y))
@@ -195,12 +197,12 @@ starts_spare full paused m (To p) h n y = (nothing_hinders full m (towards m p) 
 starts_spare full paused m (Along going) h n y = (nothing_hinders full m going h).spare
 
 -- And one that would set its motor off is refused on a full card for that alone.
-hindered_full : (m : Motor) (going : ℕ) → hindrance false m going ≡ Done → hindrance true m going ≡ Full
+hindered_full : (m : Motor) (going : ℕ) → hindrance false m going ≡ (Ok tt) → hindrance true m going ≡ (Err Full)
 unfolding hindrance
 hindered_full m going h = go (eqb m.setup.a 0) (unread m.wiring) (blocked going m) (at_range_end m going) (eqb (room going m) 0) h
   where
-    go : (a u b e r : Bool) → cond a Disabled (cond u Unread (cond b SwitchAhead (cond e AtRangeEnd (cond r AtLimit Done)))) ≡ Done
-        → cond a Disabled (cond u Unread (cond b SwitchAhead (cond e AtRangeEnd (cond r AtLimit Full)))) ≡ Full
+    go : (a u b e r : Bool) → cond {A = Verdict} a (Err Disabled) (cond u (Err Unread) (cond b (Err SwitchAhead) (cond e (Err AtRangeEnd) (cond r (Err AtLimit) (Ok tt))))) ≡ (Ok tt)
+        → cond {A = Verdict} a (Err Disabled) (cond u (Err Unread) (cond b (Err SwitchAhead) (cond e (Err AtRangeEnd) (cond r (Err AtLimit) (Err Full))))) ≡ (Err Full)
     go true u b e r h = cc
     go false true b e r h = cc
     go false false true e r h = cc
@@ -208,7 +210,7 @@ hindered_full m going h = go (eqb m.setup.a 0) (unread m.wiring) (blocked going 
     go false false false false true h = cc
     go false false false false false h = refl
 
-pub full_refuses : (paused : Bool) (m : Motor) (c : Course) → judge_start false m c ≡ Done → busy m ≡ false → busy (started paused m c) ≡ true → judge_start true m c ≡ Full
+pub full_refuses : (paused : Bool) (m : Motor) (c : Course) → judge_start false m c ≡ (Ok tt) → busy m ≡ false → busy (started paused m c) ≡ true → judge_start true m c ≡ (Err Full)
 unfolding started judge_start
 full_refuses paused m Stay h n y = absurd (false≢true (sym n ∙ y))
 full_refuses paused m Beyond h n y = absurd (false≢true (sym n ∙ y))

@@ -1,12 +1,13 @@
 -- Document 01: what starts a drive, what changes it and what ends it.
+use Rattle.std.specs.Prelude.{Result, Ok, Err}
 use Rattle.std.specs.Prelude.{ℕ, Bool, true, ◌&&◌, ◌||◌, not, cond, eqb, ltb}
 use Rattle.digits.specs.Places.{origin, is_position, moved, cw, ccw}
 use Rattle.record.specs.declared.Speeds.{Speeds}
 use Rattle.record.specs.declared.Motor.{Motor}
 use Rattle.drive.specs.declared.Course.{Course}
 use Rattle.drive.specs.declared.Course.TheVariants.{Stay, Beyond, To, Along}
-use Rattle.drive.specs.declared.Verdict.{Verdict}
-use Rattle.drive.specs.declared.Verdict.TheVariants.{Done, OutOfRange, Disabled, Unread, SwitchAhead, AtLimit, AtRangeEnd, NotDriving, Full}
+use Rattle.drive.specs.Numbers.{Verdict}
+use Rattle.drive.specs.declared.Refusal.TheVariants.{OutOfRange, Disabled, Unread, SwitchAhead, AtLimit, AtRangeEnd, NotDriving, Full}
 use Rattle.record.specs.Record.{with_wiring, with_drive, with_speed_in_force, let_go, standing}
 use Rattle.motor.specs.Switches.{unread, blocked, range_end, room}
 use Rattle.motor.specs.Sound.{busy}
@@ -45,19 +46,19 @@ at_range_end m going = eqb m.place (range_end going)
 -- last, where as many motors are busy as the card runs at most
 unfoldable pub hindrance : Bool → Motor → ℕ → Verdict
 hindrance full m going =
-    cond (eqb m.setup.a 0) Disabled
-    (cond (unread m.wiring) Unread
-    (cond (blocked going m) SwitchAhead
-    (cond (at_range_end m going) AtRangeEnd
-    (cond (eqb (room going m) 0) AtLimit
-    (cond full Full
-    Done)))))
+    cond (eqb m.setup.a 0) (Err Disabled)
+    (cond (unread m.wiring) (Err Unread)
+    (cond (blocked going m) (Err SwitchAhead)
+    (cond (at_range_end m going) (Err AtRangeEnd)
+    (cond (eqb (room going m) 0) (Err AtLimit)
+    (cond full (Err Full)
+    (Ok tt))))))
 
 -- of a stopped motor: "target out of range (3, for REL and JOG ..), the other causes of 4", which 02 §5 numbers 8 to 12, and 14 of 02 §7;
 -- ABS to the present position and REL 0 "meet no later check"
 unfoldable pub judge_start : Bool → Motor → Course → Verdict
-judge_start full m Stay = Done
-judge_start full m Beyond = OutOfRange
+judge_start full m Stay = Ok tt
+judge_start full m Beyond = Err OutOfRange
 judge_start full m (To p) = hindrance full m (towards m p)
 judge_start full m (Along going) = hindrance full m going
 
@@ -96,7 +97,7 @@ stopped flags m = cond (busy m) (ended_with flags m) m
 
 -- "4 .. SPC on a stopped motor"; 02 §5: "13 SPC on a stopped motor"
 abbrev pub judge_speed_change : Motor → Verdict
-judge_speed_change m = cond (busy m) Done NotDriving
+judge_speed_change m = cond (busy m) (Ok tt) (Err NotDriving)
 
 -- "SPC replaces the speed in force and keeps the fraction." 02 §3: "SPC on a held motor sets its coming speed."
 unfoldable pub speed_changed : Motor → ℕ → Motor

@@ -1,7 +1,12 @@
 -- Document 01, "Numbers handed back".
+use Rattle.std.specs.Prelude.{Result, Ok, Err, ⊤}
 use Rattle.std.specs.Prelude.{ℕ, Bool, ◌&&◌, ◌||◌, cond, eqb, leb}
-use Rattle.drive.specs.declared.Verdict.{Verdict}
-use Rattle.drive.specs.declared.Verdict.TheVariants.{Done, NoForm, Busy, OutOfRange, WrongSize, NotSound, LocalMode, Disabled, Unread, SwitchAhead, AtLimit, AtRangeEnd, NotDriving, Full}
+use Rattle.drive.specs.declared.Refusal.{Refusal}
+use Rattle.drive.specs.declared.Refusal.TheVariants.{NoForm, Busy, OutOfRange, WrongSize, NotSound, LocalMode, Disabled, Unread, SwitchAhead, AtLimit, AtRangeEnd, NotDriving, Full}
+
+-- how a call is judged: it is done, or refused by a cause
+abbrev pub Verdict : Type 0
+Verdict = Result ⊤ Refusal
 
 -- the number for each verdict:
 -- 0 "done";
@@ -17,20 +22,20 @@ use Rattle.drive.specs.declared.Verdict.TheVariants.{Done, NoForm, Busy, OutOfRa
 -- no room because of the end of the range .., 13 SPC on a stopped motor";
 -- 02 §7: "a fifth start is 14"
 unfoldable pub number_of : Verdict → ℕ
-number_of Done = 0
-number_of NoForm = 1
-number_of Busy = 2
-number_of OutOfRange = 3
-number_of WrongSize = 5
-number_of NotSound = 6
-number_of LocalMode = 7
-number_of Disabled = 8
-number_of Unread = 9
-number_of SwitchAhead = 10
-number_of AtLimit = 11
-number_of AtRangeEnd = 12
-number_of NotDriving = 13
-number_of Full = 14
+number_of (Ok u) = 0
+number_of (Err NoForm) = 1
+number_of (Err Busy) = 2
+number_of (Err OutOfRange) = 3
+number_of (Err WrongSize) = 5
+number_of (Err NotSound) = 6
+number_of (Err LocalMode) = 7
+number_of (Err Disabled) = 8
+number_of (Err Unread) = 9
+number_of (Err SwitchAhead) = 10
+number_of (Err AtLimit) = 11
+number_of (Err AtRangeEnd) = 12
+number_of (Err NotDriving) = 13
+number_of (Err Full) = 14
 
 -- "5 and 6 change nothing anywhere", and have no text
 abbrev pub is_silent : ℕ → Bool

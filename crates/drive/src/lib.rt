@@ -29,10 +29,9 @@ pub enum Course {
     Along(u8),
 }
 
-// How a call is judged. Each cause has its own name here, in the order of the numbers, which specs/Numbers.antt gives them.
+// What refuses a call. Each cause has its own name here, in the order of the numbers, which specs/Numbers.antt gives them.
 #[derive(Clone, Copy)]
-pub enum Verdict {
-    Done,
+pub enum Refusal {
     NoForm,
     Busy,
     OutOfRange,
@@ -47,6 +46,9 @@ pub enum Verdict {
     NotDriving,
     Full,
 }
+
+// How a call is judged: it is done, or refused by a cause.
+pub type Verdict = Result<(), Refusal>;
 
 // The motor with other end flags and another drive.
 pub fn with_drive(m: Motor, ended: u8, d: Drive) -> Motor
@@ -88,29 +90,29 @@ fn direction_to(m: Motor, p: u32) -> u8
     if m.place < p { CW } else { CCW }
 }
 
-// What keeps a stopped motor from leaving in a direction, or that nothing does; whether the card is full comes last.
+// What keeps a stopped motor from leaving in a direction, if something does; whether the card is full comes last.
 fn hindrance_to(full: bool, m: Motor, going: u8) -> Verdict
     ensures { result ≡ hindrance full m going }
 {
     if m.setup.a == 0 {
-        return Verdict::Disabled;
+        return Err(Refusal::Disabled);
     }
     if is_unread(m.wiring) {
-        return Verdict::Unread;
+        return Err(Refusal::Unread);
     }
     if is_blocked(going, m) {
-        return Verdict::SwitchAhead;
+        return Err(Refusal::SwitchAhead);
     }
     if m.place == range_end(going) {
-        return Verdict::AtRangeEnd;
+        return Err(Refusal::AtRangeEnd);
     }
     if room_of(going, m) == 0 {
-        return Verdict::AtLimit;
+        return Err(Refusal::AtLimit);
     }
     if full {
-        return Verdict::Full;
+        return Err(Refusal::Full);
     }
-    Verdict::Done
+    Ok(())
 }
 
 // How a start of a stopped motor is judged, where as many motors are busy as may be or not.
@@ -118,8 +120,8 @@ pub fn judge_start(full: bool, m: Motor, c: Course) -> Verdict
     ensures { result ≡ judge_start full m c }
 {
     match c {
-        Course::Stay => Verdict::Done,
-        Course::Beyond => Verdict::OutOfRange,
+        Course::Stay => Ok(()),
+        Course::Beyond => Err(Refusal::OutOfRange),
         Course::To(p) => hindrance_to(full, m, direction_to(m, p)),
         Course::Along(going) => hindrance_to(full, m, going),
     }
@@ -187,9 +189,9 @@ pub fn judge_speed_change(m: Motor) -> Verdict
     ensures { result ≡ judge_speed_change m }
 {
     if is_busy(m) {
-        Verdict::Done
+        Ok(())
     } else {
-        Verdict::NotDriving
+        Err(Refusal::NotDriving)
     }
 }
 

@@ -3,26 +3,27 @@
 ghost use Rattle.std.specs.Prelude.{◌≡◌, ◌≤◌};
 ghost use Rattle.drive.specs.Numbers.{number_of, flag_bit};
 
-use crate::Verdict;
+use crate::{Refusal, Verdict};
 
+#[tactic(auto, unfolding(crate::specs::Numbers::number_of))]
 pub fn number_of(v: Verdict) -> u32
     ensures { result ≡ number_of v }
 {
     match v {
-        Verdict::Done => 0,
-        Verdict::NoForm => 1,
-        Verdict::Busy => 2,
-        Verdict::OutOfRange => 3,
-        Verdict::WrongSize => 5,
-        Verdict::NotSound => 6,
-        Verdict::LocalMode => 7,
-        Verdict::Disabled => 8,
-        Verdict::Unread => 9,
-        Verdict::SwitchAhead => 10,
-        Verdict::AtLimit => 11,
-        Verdict::AtRangeEnd => 12,
-        Verdict::NotDriving => 13,
-        Verdict::Full => 14,
+        Ok(()) => 0,
+        Err(Refusal::NoForm) => 1,
+        Err(Refusal::Busy) => 2,
+        Err(Refusal::OutOfRange) => 3,
+        Err(Refusal::WrongSize) => 5,
+        Err(Refusal::NotSound) => 6,
+        Err(Refusal::LocalMode) => 7,
+        Err(Refusal::Disabled) => 8,
+        Err(Refusal::Unread) => 9,
+        Err(Refusal::SwitchAhead) => 10,
+        Err(Refusal::AtLimit) => 11,
+        Err(Refusal::AtRangeEnd) => 12,
+        Err(Refusal::NotDriving) => 13,
+        Err(Refusal::Full) => 14,
     }
 }
 

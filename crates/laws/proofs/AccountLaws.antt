@@ -1,4 +1,5 @@
 -- The account of a channel's drives, deed by deed: what is booked from outside is what the motor holds. Assumes nothing.
+use Rattle.std.specs.Prelude.{Result, Ok, Err}
 use mathlib.Core.Path.{◌≡◌, refl, sym, ap, subst, ◌∙◌}
 use mathlib.Core.Bool.{Bool, true, false, ◌&&◌, ◌||◌, cond, false≢true, and-true, and-false, and_self}
 use mathlib.Core.Logic.{◌⊎◌, inl, inr, ⊎_elim}
@@ -15,7 +16,6 @@ use Rattle.motor.proofs.SoundLaws.{or_true, or_false, sound_bounds}
 use Rattle.motor.proofs.RoomLaws.{moved_none}
 use Rattle.drive.specs.declared.Course.{Course}
 use Rattle.drive.specs.declared.Course.TheVariants.{Beyond, To}
-use Rattle.drive.specs.declared.Verdict.TheVariants.{Done}
 use Rattle.pulses.specs.declared.Ticked.{Ticked}
 use Rattle.drive.specs.Drives.{lsend, selected_speed, course_to, towards, judge_start, launched, started, released, ended_with, stopped, speed_changed, contacted, switch_read}
 use Rattle.pulses.specs.Ticks.{tick_speed, tick_motor}
@@ -39,7 +39,7 @@ pub data Leaves (q : Bool) (m : Motor) (going : ℕ) (c : Course) : Motor → Ty
 
 -- A start to another place that is accepted leaves towards it; one to the place where the motor stands changes nothing.
 module _ (full q : Bool) (m : Motor) (going p n : ℕ) where
-  to_leaves : eqb (moved going p n) m.place ≡ false → judge_start full m (course_to m going p n) ≡ Done
+  to_leaves : eqb (moved going p n) m.place ≡ false → judge_start full m (course_to m going p n) ≡ (Ok tt)
       → Leaves q m (towards m (moved going p n)) (course_to m going p n) (started q m (course_to m going p n))
   unfolding course_to judge_start started course_in
   to_leaves e = rw e (go (is_position (moved going p n)))
@@ -47,7 +47,7 @@ module _ (full q : Bool) (m : Motor) (going p n : ℕ) where
       to : ℕ
       to = moved going p n
 
-      go : (b : Bool) → judge_start full m (cond b (To to) Beyond) ≡ Done
+      go : (b : Bool) → judge_start full m (cond b (To to) Beyond) ≡ (Ok tt)
           → Leaves q m (towards m to) (cond b (To to) Beyond) (started q m (cond b (To to) Beyond))
       go true h = leaves 1 to (towards_ahead m to e).0 refl
       go false h =
@@ -83,7 +83,7 @@ module _ (full q : Bool) (m : Motor) (going n : ℕ) (s : sound_motor m ≡ true
       go (inl e) = rw (e, lt-ltb m.place (m.place + n) (omega arith))
       go (inr e) = rw (e, le-ltb m.place (m.place - n) (omega arith))
 
-  by_leaves : judge_start full m (course_to m going m.place n) ≡ Done
+  by_leaves : judge_start full m (course_to m going m.place n) ≡ (Ok tt)
       → Leaves q m going (course_to m going m.place n) (started q m (course_to m going m.place n))
   by_leaves j = rw there at (to_leaves full q m going m.place n away j)
 
@@ -96,7 +96,7 @@ sign_direction w = go w.minus
     go false = refl
 
 -- An accepted start that sets off leaves in the direction that it asks for.
-pub off_leaves : (full q : Bool) (m : Motor) (s : Start) → sound_motor m ≡ true → judge_start full m (course_of m s) ≡ Done → start_made s ≡ true
+pub off_leaves : (full q : Bool) (m : Motor) (s : Start) → sound_motor m ≡ true → judge_start full m (course_of m s) ≡ (Ok tt) → start_made s ≡ true
     → sets_off m s ≡ true → Leaves q m (way_of m s) (course_of m s) (started q m (course_of m s))
 unfolding sets_off way_of
 off_leaves full q m (Abs w) s h d e = to_leaves full q m (direction_of w) origin w.digits (not-true _ e) h
@@ -154,7 +154,7 @@ same_drive m n a e b =
       most = b.most;
     }
 
-start_balanced : (full : Bool) (m : Motor) (s : Start) (n : ℕ) (a : Account) → sound_motor m ≡ true → judge_start full m (course_of m s) ≡ Done → start_made s ≡ true
+start_balanced : (full : Bool) (m : Motor) (s : Start) (n : ℕ) (a : Account) → sound_motor m ≡ true → judge_start full m (course_of m s) ≡ (Ok tt) → start_made s ≡ true
     → Balanced m a → let l = started a.paused m (course_of m s) in Balanced l (closed l (booked m n a (starts s)))
 unfolding booked
 start_balanced full m s n a o h w b = go (sets_off m s) refl

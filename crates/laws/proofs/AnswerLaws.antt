@@ -1,4 +1,5 @@
 -- Demand 2, the replies: what every line on a sound table answers. Assumes nothing.
+use Rattle.std.specs.Prelude.{Result, Ok, Err}
 use Rattle.std.specs.Prelude.{Option, Some, None}
 use mathlib.Core.Path.{◌≡◌, refl, sym}
 use mathlib.Core.List.{List}
@@ -7,7 +8,6 @@ use Prim.Native.Nat.{ℕ, ◌+◌, ◌*◌, ◌≤◌}
 use lib.ListN.{length}
 use borrow.Author.Tests.{le-leb}
 use Rattle.digits.specs.Bytes.{put}
-use Rattle.drive.specs.declared.Verdict.TheVariants.{Done}
 use Rattle.drive.specs.Numbers.{number_of}
 use Rattle.drive.proofs.NumberLaws.{numbered}
 use Rattle.line.specs.declared.Order.{Order}
@@ -30,7 +30,7 @@ use Rattle.laws.proofs.CallWays.{in_form, taken_ways}
 use Rattle.laws.proofs.ReadBackLaws.{right_size, asked}
 
 -- An order that is no read is answered OK, or nothing.
-unasked : (t : List ℕ) (o : Order) → asks o ≡ false → answer t o ≡ told t Done
+unasked : (t : List ℕ) (o : Order) → asks o ≡ false → answer t o ≡ told t (Ok tt)
 unfolding answer asks
 unasked t (Go x s) e = refl
 unasked t (Stop x flags) e = refl

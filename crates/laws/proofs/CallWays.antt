@@ -8,7 +8,7 @@ use native.Mathlib.Omega.{arith}
 use lib.ListN.{length}
 use lib.Dec.{eqb, leb}
 use borrow.Author.Tests.{eq-eqb, eqb-true}
-use Rattle.drive.specs.declared.Verdict.{Verdict}
+use Rattle.drive.specs.Numbers.{Verdict}
 use Rattle.drive.specs.Numbers.{number_of, is_silent, is_refusal}
 use Rattle.drive.specs.Drives.{switch_read}
 use Rattle.pulses.specs.Ticks.{tick_motor}

@@ -1,4 +1,5 @@
 -- What a deed makes of a motor, and that a sound motor stays sound. Assumes nothing.
+use Rattle.std.specs.Prelude.{Result, Ok, Err}
 use mathlib.Core.Path.{◌≡◌, refl}
 use mathlib.Core.List.{List}
 use mathlib.Core.Bool.{Bool, true, false, ◌&&◌, ◌||◌, not, cond}
@@ -12,7 +13,6 @@ use Rattle.record.specs.declared.Speeds.{Speeds}
 use Rattle.record.specs.declared.Motor.{Motor}
 use Rattle.motor.specs.Sound.{is_speed, limits_in_range, speeds_in_range, wiring_in_range, contacts_right, end_flags_in_range, busy, sound_motor, held_right}
 use Rattle.motor.proofs.SoundLaws.{and_l, and_r, or_true, sound_parts, bounds_position}
-use Rattle.drive.specs.declared.Verdict.TheVariants.{Done}
 use Rattle.drive.specs.declared.Course.{Course}
 use Rattle.drive.specs.declared.Course.TheVariants.{Stay, Beyond, To, Along}
 use Rattle.drive.specs.Drives.{lsend, judge_start, well_aimed, started, released, ended_with, stopped, speed_changed, contacted, switch_read}
@@ -63,7 +63,7 @@ paused_by p D.rests = p
 
 -- what is known of a deed that was accepted, and of its motor
 pub data Fits (m : Motor) : Deed → Type 0 where
-  fits_start : (full : Bool) (s : Start) → busy m ≡ false → judge_start full m (course_of m s) ≡ Done → well_aimed m (course_of m s) ≡ true → start_made s ≡ true → Fits m (starts s)
+  fits_start : (full : Bool) (s : Start) → busy m ≡ false → judge_start full m (course_of m s) ≡ (Ok tt) → well_aimed m (course_of m s) ≡ true → start_made s ≡ true → Fits m (starts s)
   fits_stop : (flags : ℕ) → end_flags_in_range flags ≡ true → Fits m (stops flags)
   fits_speed : (v : ℕ) → busy m ≡ true → is_speed v ≡ true → Fits m (speeds v)
   fits_set : (s : Setting) → busy m ≡ false → setting_in_range s ≡ true → setting_made s ≡ true → Fits m (sets s)

@@ -1,5 +1,6 @@
 -- After any call on a sound table the table is sound, and each channel's motor is what the call's deed makes of it. Assumes
 -- nothing.
+use Rattle.std.specs.Prelude.{Result, Ok, Err}
 use mathlib.Core.Path.{◌≡◌, refl, sym, ◌∙◌}
 use mathlib.Core.List.{List}
 use mathlib.Core.Bool.{Bool, true, false, ◌&&◌, ◌||◌, not, cond, false≢true, and-true, and-false}
@@ -11,7 +12,7 @@ use borrow.Author.Tests.{eq-eqb, ne_eqb, eqb-true, eqb-false, leb-true, leb-fals
 use Rattle.record.specs.declared.Motor.{Motor}
 use Rattle.motor.specs.Sound.{end_flags_in_range, busy, sound_motor, held_right}
 use Rattle.motor.proofs.SoundLaws.{and_r, or_true}
-use Rattle.drive.specs.declared.Verdict.TheVariants.{Done, Busy, OutOfRange, LocalMode, NotDriving}
+use Rattle.drive.specs.declared.Refusal.TheVariants.{Busy, OutOfRange, LocalMode, NotDriving}
 use Rattle.drive.specs.Numbers.{number_of}
 use Rattle.drive.proofs.NumberLaws.{numbered}
 use Rattle.drive.specs.Drives.{well_aimed, released}
@@ -56,14 +57,14 @@ pub record Passed (f : Bool) (t : List ℕ) (o : Order) : Type 0 where
   pub remote : (needs_remote o && eqb (head_of t).mode 0) ≡ false
   pub value : value_in_range o ≡ true
   pub free : meets_busy t o ≡ false
-  pub motor : judge_motor f t o ≡ Done
+  pub motor : judge_motor f t o ≡ (Ok tt)
 
 pub passed_where : (f : Bool) (t : List ℕ) (o : Order) → number_of (judge_where f t o) ≡ 0 → Passed f t o
 unfolding judge_where number_of
 passed_where f t o = go (needs_remote o && eqb (head_of t).mode 0) refl (value_in_range o) refl (meets_busy t o) refl
   where
     go : (r : Bool) → (needs_remote o && eqb (head_of t).mode 0) ≡ r → (v : Bool) → value_in_range o ≡ v → (b : Bool) → meets_busy t o ≡ b
-        → number_of (cond r LocalMode (cond (not v) OutOfRange (cond b Busy (judge_motor f t o)))) ≡ 0 → Passed f t o
+        → number_of (cond r (Err LocalMode) (cond (not v) (Err OutOfRange) (cond b (Err Busy) (judge_motor f t o)))) ≡ 0 → Passed f t o
     go true r v ev b eb e = absurd (omega (arith, e))
     go false r false v b eb e = absurd (omega (arith, e))
     go false r true v true b e = absurd (omega (arith, e))
@@ -89,7 +90,7 @@ flags_in_range flags = go (eqb flags ssend) refl (eqb flags esend) refl
     go false a true b e = rw (eqb-true flags esend b)
     go false a false b e = absurd (false≢true e)
 
-goes_on_law : (b : Bool) → cond b Done NotDriving ≡ Done → b ≡ true
+goes_on_law : (b : Bool) → cond b (Ok tt) (Err NotDriving) ≡ (Ok tt) → b ≡ true
 goes_on_law true e = refl
 goes_on_law false e = cc
 

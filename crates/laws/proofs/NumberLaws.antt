@@ -1,4 +1,5 @@
 -- The numbers handed back, for every table and all inputs. Assumes nothing.
+use Rattle.std.specs.Prelude.{Result, Ok, Err}
 use Rattle.std.specs.Prelude.{Option, Some, None}
 use mathlib.Core.Path.{◌≡◌, refl, sym, ◌∙◌}
 use mathlib.Core.List.{List, []}
@@ -13,8 +14,8 @@ use Rattle.digits.proofs.CountLaws.{many_fewer}
 use Rattle.record.specs.declared.Motor.{Motor}
 use Rattle.motor.specs.Switches.{unread, blocked, room}
 use Rattle.motor.specs.Sound.{busy}
-use Rattle.drive.specs.declared.Verdict.{Verdict}
-use Rattle.drive.specs.declared.Verdict.TheVariants.{Done, Busy, OutOfRange, LocalMode, Disabled, Unread, SwitchAhead, AtLimit, AtRangeEnd, NotDriving}
+use Rattle.drive.specs.Numbers.{Verdict}
+use Rattle.drive.specs.declared.Refusal.TheVariants.{Busy, OutOfRange, LocalMode, Disabled, Unread, SwitchAhead, AtLimit, AtRangeEnd, NotDriving}
 use Rattle.drive.specs.declared.Course.{Course}
 use Rattle.drive.specs.declared.Course.TheVariants.{Stay, Beyond, To, Along}
 use Rattle.drive.specs.Drives.{towards, at_range_end, hindrance, judge_start}
@@ -130,7 +131,7 @@ unhindered t o i = judge_passes unhindering t o refl refl refl (by_motor o i)
     by_motor (Go x s) i = absurd (false≢true (sym i))
     by_motor (Stop x e) i = refl
     by_motor (StopAll e) i = refl
-    by_motor (ChangeSpeed x v) i = either unhindering (busy (motor_at t x)) Done NotDriving refl refl
+    by_motor (ChangeSpeed x v) i = either unhindering (busy (motor_at t x)) (Ok tt) (Err NotDriving) refl refl
     by_motor (Set x s) i = refl
     by_motor (Ask x q) i = refl
     by_motor (AskHead q) i = refl
@@ -172,11 +173,11 @@ another v = not (eqb (number_of v) 14)
 hindered : (m : Motor) (going : ℕ) → another (hindrance false m going) ≡ true
 unfolding hindrance number_of
 hindered m going =
-    either another (eqb m.setup.a 0) Disabled _ refl
-    (either another (unread m.wiring) Unread _ refl
-    (either another (blocked going m) SwitchAhead _ refl
-    (either another (at_range_end m going) AtRangeEnd _ refl
-    (either another (eqb (room going m) 0) AtLimit Done refl refl))))
+    either another (eqb m.setup.a 0) (Err Disabled) _ refl
+    (either another (unread m.wiring) (Err Unread) _ refl
+    (either another (blocked going m) (Err SwitchAhead) _ refl
+    (either another (at_range_end m going) (Err AtRangeEnd) _ refl
+    (either another (eqb (room going m) 0) (Err AtLimit) (Ok tt) refl refl))))
 
 unfull : (m : Motor) (c : Course) → another (judge_start false m c) ≡ true
 unfolding judge_start number_of
@@ -188,10 +189,10 @@ unfull m (Along going) = hindered m going
 go_unfull : (t : List ℕ) (x : ℕ) (r : Start) → sound_table t ≡ true → x ≤ 15 → (head_of t).card ≡ 0 → another (judge t (Go x r)) ≡ true
 unfolding judge judge_where meets_busy judge_motor number_of
 go_unfull t x r s h z =
-    either another (needs_remote (Go x r) && eqb (head_of t).mode 0) LocalMode _ refl
-    (either another (not (value_in_range (Go x r))) OutOfRange _ refl (go (busy (motor_at t x)) refl))
+    either another (needs_remote (Go x r) && eqb (head_of t).mode 0) (Err LocalMode) _ refl
+    (either another (not (value_in_range (Go x r))) (Err OutOfRange) _ refl (go (busy (motor_at t x)) refl))
   where
-    go : (b : Bool) → busy (motor_at t x) ≡ b → another (cond b Busy (judge_start (card_full (head_of t)) (motor_at t x) (course_of (motor_at t x) r))) ≡ true
+    go : (b : Bool) → busy (motor_at t x) ≡ b → another (cond b (Err Busy) (judge_start (card_full (head_of t)) (motor_at t x) (course_of (motor_at t x) r))) ≡ true
     go true e = refl
     go false e = rw (spare_sixteen t x s h e z) (unfull (motor_at t x) (course_of (motor_at t x) r))
 
@@ -200,7 +201,7 @@ unfolding judge_motor number_of named
 on_sixteen t (Go x r) s made z = go_unfull t x r s (named_channel (Go x r) made) z
 on_sixteen t (Stop x e) s made z = judge_passes another t (Stop x e) refl refl refl refl
 on_sixteen t (StopAll e) s made z = judge_passes another t (StopAll e) refl refl refl refl
-on_sixteen t (ChangeSpeed x v) s made z = judge_passes another t (ChangeSpeed x v) refl refl refl (either another (busy (motor_at t x)) Done NotDriving refl refl)
+on_sixteen t (ChangeSpeed x v) s made z = judge_passes another t (ChangeSpeed x v) refl refl refl (either another (busy (motor_at t x)) (Ok tt) (Err NotDriving) refl refl)
 on_sixteen t (Set x r) s made z = judge_passes another t (Set x r) refl refl refl refl
 on_sixteen t (Ask x q) s made z = judge_passes another t (Ask x q) refl refl refl refl
 on_sixteen t (AskHead q) s made z = judge_passes another t (AskHead q) refl refl refl refl

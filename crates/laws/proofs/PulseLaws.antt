@@ -1,4 +1,5 @@
 -- Demand 3, for every channel and every sequence of calls after a fresh one. Assumes nothing.
+use Rattle.std.specs.Prelude.{Result, Ok, Err}
 use mathlib.Core.Path.{◌≡◌, refl, sym, ap, ◌∙◌}
 use mathlib.Core.List.{List, [], ◌∷◌}
 use mathlib.Core.Bool.{Bool, true, false, ◌&&◌, not, cond, false≢true}
@@ -15,7 +16,6 @@ use Rattle.motor.specs.Sound.{aim_right, busy, moving, sound_motor}
 use Rattle.motor.proofs.SoundLaws.{sound_busy, sound_bounds}
 use Rattle.motor.proofs.RoomLaws.{moved_ahead, room_moved}
 use Rattle.pulses.specs.declared.Ticked.{Ticked}
-use Rattle.drive.specs.declared.Verdict.TheVariants.{Done}
 use Rattle.drive.specs.declared.Course.{Course}
 use Rattle.drive.specs.Drives.{lsend, judge_start, launched, started, released, ended_with, stopped, contacted, switch_read, speed_changed}
 use Rattle.pulses.specs.Ticks.{to_target, distance_left, room_left, given, tick_motor, tick_count}
@@ -195,7 +195,7 @@ set_flags m (SetSwitches q r) = refl
 set_flags m (SetMotor q) = refl
 
 -- A motor that stands stopped before a deed and after it keeps its end flags.
-start_flags : (full q : Bool) (m : Motor) (s : Start) → sound_motor m ≡ true → judge_start full m (course_of m s) ≡ Done → start_made s ≡ true
+start_flags : (full q : Bool) (m : Motor) (s : Start) → sound_motor m ≡ true → judge_start full m (course_of m s) ≡ (Ok tt) → start_made s ≡ true
     → busy (started q m (course_of m s)) ≡ false → (started q m (course_of m s)).ended ≡ m.ended
 start_flags full q m s o j r n = go (sets_off m s) refl
   where

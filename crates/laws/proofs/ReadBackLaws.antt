@@ -1,4 +1,5 @@
 -- Demand 2, the settings: over any sequence of calls, what was accepted is what the read command answers. Assumes nothing.
+use Rattle.std.specs.Prelude.{Result, Ok, Err}
 use Rattle.std.specs.Prelude.{Option, Some, None}
 use mathlib.Core.Path.{◌≡◌, refl, ◌∙◌}
 use mathlib.Core.List.{List, [], ◌∷◌}
@@ -14,7 +15,6 @@ use Rattle.digits.specs.Words.{with_bit}
 use Rattle.text.specs.Text.{bytes}
 use Rattle.record.specs.declared.Motor.{Motor}
 use Rattle.motor.proofs.SoundLaws.{and_l, and_r}
-use Rattle.drive.specs.declared.Verdict.TheVariants.{Done}
 use Rattle.drive.specs.Numbers.{number_of, flag_bit}
 use Rattle.drive.specs.Drives.{switch_read}
 use Rattle.pulses.specs.Ticks.{tick_motor}
@@ -112,7 +112,7 @@ takes t k o s = go (outcome t k s)
 
 -- An order that is accepted and changes nothing answers its text.
 pub asked : (t line reply : List ℕ) (o : Order) (text : List ℕ) → sound_table t ≡ true → 32 ≤ length reply → order_in t line ≡ Some o
-    → judge t o ≡ Done → changed t o ≡ t → answer t o ≡ text
+    → judge t o ≡ (Ok tt) → changed t o ≡ t → answer t o ≡ text
     → after urqolina t (command line reply) ≡ record { result = 256 * length text; table = t; buffer = put reply 0 text }
 unfolding after command_call taken obeyed number_of
 asked t line reply o text s h e j c a = rw (right_size t s, le-leb 32 (length reply) h, s, e, j, c, a, zero-add)
@@ -274,7 +274,7 @@ reads_back b ks k later line reply enough =
     sound : sound_table u ≡ true
     sound = (next t k start).sound
 
-    read : (o : Order) (text : List ℕ) → order_in v line ≡ Some o → judge v o ≡ Done → changed v o ≡ v → answer v o ≡ text
+    read : (o : Order) (text : List ℕ) → order_in v line ≡ Some o → judge v o ≡ (Ok tt) → changed v o ≡ v → answer v o ≡ text
         → after urqolina v (command line reply) ≡ record { result = 256 * length text; table = v; buffer = put reply 0 text }
     read o text q j c a = asked v line reply o text (run_sound u later sound) enough q j c a
 

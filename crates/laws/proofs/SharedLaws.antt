@@ -1,4 +1,5 @@
 -- Demand 3 over the number of motors that may be busy: one proof for both cards. Assumes nothing.
+use Rattle.std.specs.Prelude.{Result, Ok, Err}
 use Rattle.std.specs.Prelude.{Option, Some, None}
 use mathlib.Core.Path.{◌≡◌, refl, sym, ◌∙◌}
 use mathlib.Core.List.{List, [], ◌∷◌}
@@ -14,7 +15,7 @@ use Rattle.digits.proofs.CountLaws.{many_same}
 use Rattle.text.specs.Text.{digit_byte}
 use Rattle.motor.specs.Sound.{busy}
 use Rattle.motor.proofs.SoundLaws.{and_r}
-use Rattle.drive.specs.declared.Verdict.TheVariants.{Done, Full}
+use Rattle.drive.specs.declared.Refusal.TheVariants.{Full}
 use Rattle.drive.specs.Numbers.{number_of}
 use Rattle.drive.proofs.KeptSound.{full_refuses}
 use Rattle.line.specs.declared.Start.{Start}
@@ -49,12 +50,12 @@ use Rattle.laws.proofs.PulseLaws.{balance, leaves_busy}
 use Rattle.laws.proofs.ReadBackLaws.{right_size, asked, ran_card}
 
 -- A start that every other check lets leave is judged by whether the card is full.
-module _ (t : List ℕ) (x : ℕ) (s : Start) (sound : sound_table t ≡ true) (made : order_made (Go x s) ≡ true) (otherwise : judge_where false t (Go x s) ≡ Done)
+module _ (t : List ℕ) (x : ℕ) (s : Start) (sound : sound_table t ≡ true) (made : order_made (Go x s) ≡ true) (otherwise : judge_where false t (Go x s) ≡ (Ok tt))
     (off : sets_off (motor_at t x) s ≡ true) where
   p : Passed false t (Go x s)
   p = passed_where false t (Go x s) (rw otherwise (unfold number_of in refl))
 
-  leaves_full : judge_where true t (Go x s) ≡ Full
+  leaves_full : judge_where true t (Go x s) ≡ (Err Full)
   unfolding judge_where judge_motor meets_busy order_made named
   leaves_full =
       let m = motor_at t x in
@@ -102,7 +103,7 @@ module _ (b : Beginning) (ks : List Call) where
   sizes : (reply : List ℕ) → 32 ≤ length reply → (eqb (length t) table_size && leb 32 (length reply)) ≡ true
   sizes reply h = rw (right_size t s) (le-leb 32 (length reply) h)
 
-  gate : (line reply : List ℕ) (x : ℕ) (st : Start) → 32 ≤ length reply → order_of line ≡ Some (Go x st) → judge_where false t (Go x st) ≡ Done
+  gate : (line reply : List ℕ) (x : ℕ) (st : Start) → 32 ≤ length reply → order_of line ≡ Some (Go x st) → judge_where false t (Go x st) ≡ (Ok tt)
       → sets_off (motor_at t x) st ≡ true → (urqolina.command t line reply).result % 256 ≡ cond (eqb (driving urqolina b ks) (most urqolina b ks)) 14 0
   unfolding has_form judge
   gate line reply x st h q j off =

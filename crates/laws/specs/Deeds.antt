@@ -1,9 +1,10 @@
 -- What demand 2 makes of a call, by the documents' rules alone: which calls are accepted, and what an accepted one is to a
 -- channel. The table is a sound one, as it is after every sequence.
+use Rattle.std.specs.Prelude.{Result, Ok, Err}
 use Rattle.std.specs.Prelude.{Option, Some, None}
 use Rattle.std.specs.Prelude.{ℕ, List, Bool, true, false, ◌&&◌, cond, length, eqb, leb}
-use Rattle.drive.specs.declared.Verdict.{Verdict}
-use Rattle.drive.specs.declared.Verdict.TheVariants.{NoForm}
+use Rattle.drive.specs.Numbers.{Verdict}
+use Rattle.drive.specs.declared.Refusal.TheVariants.{NoForm}
 use Rattle.line.specs.declared.Start.{Start}
 use Rattle.line.specs.declared.Setting.{Setting}
 use Rattle.line.specs.declared.HeadOrder.{HeadOrder}
@@ -17,7 +18,7 @@ use Rattle.laws.specs.Sequences.{Call, command, reading, tick}
 -- the verdict on what a line is: "1 | .. | the line has none of the forms above", or what the rules judge
 abbrev pub verdict : List ℕ → Option Order → Verdict
 verdict t (Some o) = judge t o
-verdict t None = NoForm
+verdict t None = Err NoForm
 
 -- the order of a line, where the rules accept it: "0 | OK | done"
 abbrev pub order_passed : List ℕ → Option Order → Option Order

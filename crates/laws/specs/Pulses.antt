@@ -1,4 +1,5 @@
 -- Demand 3, over any sequence of calls after a fresh one, and when a drive ends.
+use Rattle.std.specs.Prelude.{Result, Ok, Err}
 use Rattle.std.specs.Prelude.{Option, Some, None}
 use Rattle.std.specs.Prelude.{◌≡◌, List, [], ◌∷◌, Bool, true, false, not, cond, ℕ, ◌+◌, ◌*◌, ◌-◌, ◌%◌, ◌≤◌, ◌<◌, length, eqb}
 use Rattle.digits.specs.Bytes.{put}
@@ -10,7 +11,6 @@ use Rattle.motor.specs.Switches.{room, blocked}
 use Rattle.motor.specs.Sound.{busy, moving}
 use Rattle.text.specs.Text.{digit_byte}
 use Rattle.drive.specs.declared.Course.TheVariants.{To}
-use Rattle.drive.specs.declared.Verdict.TheVariants.{Done}
 use Rattle.drive.specs.Drives.{lsend}
 use Rattle.pulses.specs.Ticks.{rounded_up, to_target, distance_left, room_left}
 use Rattle.line.specs.declared.Start.{Start}
@@ -124,7 +124,7 @@ module _ (l : Library) (b : Beginning) (ks : List Call) where
     pub few : driving ≤ most
     -- "decides whether a start is taken": one that passes every other check, and sets its channel off, is 14 exactly where so many have a
     -- drive, and else it is taken
-    pub gate : (line reply : List ℕ) (x : ℕ) (s : Start) → 32 ≤ length reply → order_of line ≡ Some (Go x s) → judge_where false (ran l b ks) (Go x s) ≡ Done
+    pub gate : (line reply : List ℕ) (x : ℕ) (s : Start) → 32 ≤ length reply → order_of line ≡ Some (Go x s) → judge_where false (ran l b ks) (Go x s) ≡ (Ok tt)
         → sets_off (motor_at (ran l b ks) x) s ≡ true → (l.command (ran l b ks) line reply).result % 256 ≡ cond (eqb driving most) 14 0
     -- "`STQ?` .. answers R or L and four less that number. On the sixteen card it is 1"
     pub free : (line reply : List ℕ) → 32 ≤ length reply → order_of line ≡ Some (AskHead AskFree) → b.card ≡ 1

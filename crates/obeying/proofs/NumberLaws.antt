@@ -1,4 +1,5 @@
 -- The numbers that a line can be answered with: what judges an order gives 0, or the number of a refusal. Assumes nothing.
+use Rattle.std.specs.Prelude.{Result, Ok, Err}
 use Rattle.std.specs.Prelude.{Option, Some, None}
 use mathlib.Core.Path.{◌≡◌, refl, sym}
 use mathlib.Core.List.{List}
@@ -12,8 +13,8 @@ use Rattle.motor.specs.Switches.{unread, blocked, room}
 use Rattle.motor.specs.Sound.{busy}
 use Rattle.drive.specs.declared.Course.{Course}
 use Rattle.drive.specs.declared.Course.TheVariants.{Stay, Beyond, To, Along}
-use Rattle.drive.specs.declared.Verdict.{Verdict}
-use Rattle.drive.specs.declared.Verdict.TheVariants.{Done, NoForm, Busy, OutOfRange, LocalMode, Disabled, Unread, SwitchAhead, AtLimit, AtRangeEnd, NotDriving, Full}
+use Rattle.drive.specs.Numbers.{Verdict}
+use Rattle.drive.specs.declared.Refusal.TheVariants.{NoForm, Busy, OutOfRange, LocalMode, Disabled, Unread, SwitchAhead, AtLimit, AtRangeEnd, NotDriving, Full}
 use Rattle.drive.specs.Numbers.{number_of, is_refusal}
 use Rattle.drive.proofs.NumberLaws.{numbered}
 use Rattle.drive.specs.Drives.{at_range_end, hindrance, towards, judge_start}
@@ -31,11 +32,11 @@ pub judged_value : (t : List ℕ) (o : Order) → number_of (judge t o) ≡ 0 �
 unfolding judge judge_where number_of
 judged_value t o e = local (needs_remote o && eqb (head_of t).mode 0) e
   where
-    ranged : (b : Bool) → value_in_range o ≡ b → number_of (cond (not b) OutOfRange (cond (meets_busy t o) Busy (judge_motor (card_full (head_of t)) t o))) ≡ 0 → value_in_range o ≡ true
+    ranged : (b : Bool) → value_in_range o ≡ b → number_of (cond (not b) (Err OutOfRange) (cond (meets_busy t o) (Err Busy) (judge_motor (card_full (head_of t)) t o))) ≡ 0 → value_in_range o ≡ true
     ranged true h e = h
     ranged false h e = absurd (omega (arith, e))
 
-    local : (b : Bool) → number_of (cond b LocalMode (cond (not (value_in_range o)) OutOfRange (cond (meets_busy t o) Busy (judge_motor (card_full (head_of t)) t o)))) ≡ 0
+    local : (b : Bool) → number_of (cond b (Err LocalMode) (cond (not (value_in_range o)) (Err OutOfRange) (cond (meets_busy t o) (Err Busy) (judge_motor (card_full (head_of t)) t o)))) ≡ 0
         → value_in_range o ≡ true
     local true e = absurd (omega (arith, e))
     local false e = ranged (value_in_range o) refl e
@@ -52,12 +53,12 @@ either test false v w hv hw = hw
 hindrance_judged : (full : Bool) (m : Motor) (going : ℕ) → judged (hindrance full m going) ≡ true
 unfolding hindrance number_of
 hindrance_judged full m going =
-    either judged (eqb m.setup.a 0) Disabled _ refl
-    (either judged (unread m.wiring) Unread _ refl
-    (either judged (blocked going m) SwitchAhead _ refl
-    (either judged (at_range_end m going) AtRangeEnd _ refl
-    (either judged (eqb (room going m) 0) AtLimit _ refl
-    (either judged full Full Done refl refl)))))
+    either judged (eqb m.setup.a 0) (Err Disabled) _ refl
+    (either judged (unread m.wiring) (Err Unread) _ refl
+    (either judged (blocked going m) (Err SwitchAhead) _ refl
+    (either judged (at_range_end m going) (Err AtRangeEnd) _ refl
+    (either judged (eqb (room going m) 0) (Err AtLimit) _ refl
+    (either judged full (Err Full) (Ok tt) refl refl)))))
 
 start_judged : (full : Bool) (m : Motor) (c : Course) → judged (judge_start full m c) ≡ true
 unfolding judge_start number_of
@@ -71,20 +72,20 @@ unfolding judge_motor number_of
 motor_judged full t (Go x s) = start_judged full (motor_at t x) (course_of (motor_at t x) s)
 motor_judged full t (Stop x e) = refl
 motor_judged full t (StopAll e) = refl
-motor_judged full t (ChangeSpeed x v) = either judged (busy (motor_at t x)) Done NotDriving refl refl
+motor_judged full t (ChangeSpeed x v) = either judged (busy (motor_at t x)) (Ok tt) (Err NotDriving) refl refl
 motor_judged full t (Set x s) = refl
 motor_judged full t (Ask x q) = refl
 motor_judged full t (AskHead q) = refl
 motor_judged full t (ForHead h) = refl
 
 -- What an order is judged passes a test that local mode, a bad value and busy pass, and what lies in the motor.
-pub judge_passes : (test : Verdict → Bool) (t : List ℕ) (o : Order) → test LocalMode ≡ true → test OutOfRange ≡ true → test Busy ≡ true
+pub judge_passes : (test : Verdict → Bool) (t : List ℕ) (o : Order) → test (Err LocalMode) ≡ true → test (Err OutOfRange) ≡ true → test (Err Busy) ≡ true
     → test (judge_motor (card_full (head_of t)) t o) ≡ true → test (judge t o) ≡ true
 unfolding judge judge_where
 judge_passes test t o local value busy motor =
-    either test (needs_remote o && eqb (head_of t).mode 0) LocalMode _ local
-    (either test (not (value_in_range o)) OutOfRange _ value
-    (either test (meets_busy t o) Busy (judge_motor (card_full (head_of t)) t o) busy motor))
+    either test (needs_remote o && eqb (head_of t).mode 0) (Err LocalMode) _ local
+    (either test (not (value_in_range o)) (Err OutOfRange) _ value
+    (either test (meets_busy t o) (Err Busy) (judge_motor (card_full (head_of t)) t o) busy motor))
 
 -- Whatever judges an order, it is done or refused.
 pub judge_judged : (t : List ℕ) (o : Order) → judged (judge t o) ≡ true
@@ -100,12 +101,12 @@ refused_judged t o e = go (eqb (number_of (judge t o)) 0) (is_refusal (number_of
     go false refused e h = h
 
 -- Where an order is judged with its form: it is done where the card has the form and the rules accept it, and else it is refused.
-pub formed_judged : (b : Bool) (v : Verdict) → number_of (cond b v NoForm) ≡ 0 → (b ≡ true) × (number_of v ≡ 0)
+pub formed_judged : (b : Bool) (v : Verdict) → number_of (cond b v (Err NoForm)) ≡ 0 → (b ≡ true) × (number_of v ≡ 0)
 unfolding number_of
 formed_judged true v e = (refl, e)
 formed_judged false v e = absurd (omega (arith, e))
 
-pub formed_obeyed : (t : List ℕ) (o : Order) (reply : List ℕ) → number_of (cond (has_form (head_of t).card o) (judge t o) NoForm) ≡ 0
+pub formed_obeyed : (t : List ℕ) (o : Order) (reply : List ℕ) → number_of (cond (has_form (head_of t).card o) (judge t o) (Err NoForm)) ≡ 0
     → taken t (on_card (head_of t).card (Some o)) reply ≡ obeyed t o reply
 unfolding taken
 formed_obeyed t o reply e =
@@ -113,11 +114,11 @@ formed_obeyed t o reply e =
     rw (f.0, eq-eqb (number_of (judge t o)) 0 f.1)
 
 pub formed_refused : (t : List ℕ) (o : Order) (reply : List ℕ)
-    → let v = cond (has_form (head_of t).card o) (judge t o) NoForm in eqb (number_of v) 0 ≡ false → taken t (on_card (head_of t).card (Some o)) reply ≡ refused t v reply
+    → let v = cond (has_form (head_of t).card o) (judge t o) (Err NoForm) in eqb (number_of v) 0 ≡ false → taken t (on_card (head_of t).card (Some o)) reply ≡ refused t v reply
 unfolding taken
 formed_refused t o reply = go (has_form (head_of t).card o)
   where
-    go : (b : Bool) → let v = cond b (judge t o) NoForm in eqb (number_of v) 0 ≡ false → taken t (cond b (Some o) None) reply ≡ refused t v reply
+    go : (b : Bool) → let v = cond b (judge t o) (Err NoForm) in eqb (number_of v) 0 ≡ false → taken t (cond b (Some o) None) reply ≡ refused t v reply
     go true e = rw e
     go false e = refl
 
@@ -133,7 +134,7 @@ obeyed_number t o reply = omega arith
 -- What a line on a sound table gives is 0, or the number of a refusal.
 pub taken_number : (t : List ℕ) (p : Option Order) (reply : List ℕ) → let n = (taken t p reply).result % 256 in (eqb n 0 || is_refusal n) ≡ true
 unfolding taken
-taken_number t None reply = rw (refused_number t NoForm reply) (unfold number_of in refl)
+taken_number t None reply = rw (refused_number t (Err NoForm) reply) (unfold number_of in refl)
 taken_number t (Some o) reply = go (eqb (number_of (judge t o)) 0)
   where
     go : (b : Bool) → let n = (cond b (obeyed t o reply) (refused t (judge t o) reply)).result % 256 in (eqb n 0 || is_refusal n) ≡ true

@@ -1,4 +1,5 @@
 -- What taking a line goes by: digits that are in range, and orders that ask nothing. Assumes nothing.
+use Rattle.std.specs.Prelude.{Result, Ok, Err}
 use mathlib.Core.Path.{◌≡◌, refl}
 use mathlib.Core.List.{List}
 use mathlib.Core.Bool.{true}
@@ -6,7 +7,6 @@ use Prim.Native.Nat.{ℕ}
 use Rattle.record.specs.declared.Motor.{Motor}
 use Rattle.motor.specs.Sound.{setup_in_range, sound_motor}
 use Rattle.motor.proofs.SoundLaws.{sound_parts}
-use Rattle.drive.specs.declared.Verdict.TheVariants.{Done}
 use Rattle.line.specs.declared.Question.{Question}
 use Rattle.line.specs.declared.HeadQuestion.{HeadQuestion}
 use Rattle.line.specs.declared.Order.{Order}
@@ -20,7 +20,7 @@ setup_sound m s = (sound_parts m s).range.setup
 -- Orders that ask nothing are answered OK, or nothing.
 pub unasked_told : (t : List ℕ) (o : Order)
     → ((x : ℕ) (q : Question) → o ≡ Ask x q → ⊥) → ((q : HeadQuestion) → o ≡ AskHead q → ⊥)
-    → answer t o ≡ told t Done
+    → answer t o ≡ told t (Ok tt)
 unfolding answer
 unasked_told t (Go x s) a b = refl
 unasked_told t (Stop x flags) a b = refl

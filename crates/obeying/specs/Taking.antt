@@ -1,10 +1,11 @@
 -- What a line does on a sound table, a function from the table, what the line is and the reply buffer to all that is left: the
 -- result, the table and the reply buffer. The inputs are any lists, sound or not.
+use Rattle.std.specs.Prelude.{Result, Ok, Err}
 use Rattle.std.specs.Prelude.{Option, Some, None}
 use Rattle.std.specs.Prelude.{ℕ, ◌+◌, ◌*◌, List, Bool, cond, length, eqb}
 use Rattle.digits.specs.Bytes.{put}
-use Rattle.drive.specs.declared.Verdict.{Verdict}
-use Rattle.drive.specs.declared.Verdict.TheVariants.{Done, NoForm}
+use Rattle.drive.specs.Numbers.{Verdict}
+use Rattle.drive.specs.declared.Refusal.TheVariants.{NoForm}
 use Rattle.drive.specs.Numbers.{number_of}
 use Rattle.line.specs.declared.Order.{Order}
 use Rattle.line.specs.Forms.{order_of, on_card}
@@ -35,7 +36,7 @@ refused t v reply =
 
 -- an order that is accepted: the answer is made on the table after it
 unfoldable pub obeyed : List ℕ → Order → List ℕ → CommandAfter
-obeyed t o reply = replied Done (changed t o) (answer (changed t o) o) reply
+obeyed t o reply = replied (Ok tt) (changed t o) (answer (changed t o) o) reply
 
 -- what a line is on a table, whose card decides which lines have a form; 02 §7, of `STQ?`: "On the sixteen card it is 1"
 abbrev pub order_in : List ℕ → List ℕ → Option Order
@@ -43,5 +44,5 @@ order_in t line = on_card (head_of t).card (order_of line)
 
 -- a line on a sound table: "1 .. the line has none of the forms above", then the order's verdict
 unfoldable pub taken : List ℕ → Option Order → List ℕ → CommandAfter
-taken t None reply = refused t NoForm reply
+taken t None reply = refused t (Err NoForm) reply
 taken t (Some o) reply = cond (accepted (judge t o)) (obeyed t o reply) (refused t (judge t o) reply)

@@ -3,9 +3,8 @@
 
 #![tactic(auto)]
 
-ghost use Rattle.std.specs.Prelude.{◌≡◌, true, ◌+◌, ◌*◌, ◌≤◌, length, Some};
+ghost use Rattle.std.specs.Prelude.{◌≡◌, true, ◌+◌, ◌*◌, ◌≤◌, length, Some, Ok};
 ghost use Rattle.drive.specs.Numbers.{number_of};
-ghost use Rattle.drive.specs.declared.Verdict.TheVariants.{Done};
 ghost use Rattle.line.specs.declared.Order.TheVariants.{Ask, AskHead};
 ghost use Rattle.line.specs.Forms.{on_card};
 ghost use Rattle.line.specs.Made.{order_made, parsed_made};
@@ -19,7 +18,7 @@ ghost use Rattle.obeying.specs.Taking.{replied, refused, obeyed, taken};
 use commands::changing::change;
 use commands::flags::set_flag;
 use commands::judging::judge_order;
-use drive::Verdict;
+use drive::{Refusal, Verdict};
 use drive::numbers::number_of;
 use line::{HeadQuestion, Order, Question};
 use replies::{write_echo, write_head_question, write_question};
@@ -52,7 +51,7 @@ fn tell_channel(t: &[u8], x: u8, q: Question, reply: &mut [u8]) -> u32
 {
     let h = read_head(t);
     let count = write_question(reply, h.mode, x, motor_at(t, x), q);
-    result_of(Verdict::Done, count)
+    result_of(Ok(()), count)
 }
 
 // Answers a question about the head; the table stays as it is.
@@ -61,18 +60,18 @@ fn tell_head(t: &[u8], q: HeadQuestion, reply: &mut [u8]) -> u32
     ensures { record { result = result; table = t.now; reply = reply.new } ≡ obeyed t.now (AskHead q) reply.old }
 {
     let count = write_head_question(reply, read_head(t), q);
-    result_of(Verdict::Done, count)
+    result_of(Ok(()), count)
 }
 
 // Carries out an accepted order: the table is changed, and OK written if all-reply is on after it.
 fn carry_out(t: &mut [u8], o: Order, reply: &mut [u8]) -> u32
     requires { (sound_table t.old ≡ true) × (32 ≤ length reply.old) × (order_made o ≡ true) × (value_in_range o ≡ true) }
-    ensures { record { result = result; table = t.new; reply = reply.new } ≡ replied Done (changed t.old o) (told (changed t.old o) Done) reply.old }
+    ensures { record { result = result; table = t.new; reply = reply.new } ≡ replied (Ok tt) (changed t.old o) (told (changed t.old o) (Ok tt)) reply.old }
 {
     change(t, o);
     let h = read_head(t);
-    let count = write_echo(reply, h.reply, Verdict::Done);
-    result_of(Verdict::Done, count)
+    let count = write_echo(reply, h.reply, Ok(()));
+    result_of(Ok(()), count)
 }
 
 // Obeys an accepted order and writes its answer.
@@ -92,11 +91,9 @@ fn take_order(t: &mut [u8], o: Order, reply: &mut [u8]) -> u32
     requires { (sound_table t.old ≡ true) × (32 ≤ length reply.old) × (order_made o ≡ true) }
     ensures { record { result = result; table = t.new; reply = reply.new } ≡ taken t.old (on_card (head_of t.old).card (Some o)) reply.old }
 {
-    let v = judge_order(t, o);
-    if number_of(v) == 0 {
-        obey(t, o, reply)
-    } else {
-        refuse(t, v, reply)
+    match judge_order(t, o) {
+        Ok(()) => obey(t, o, reply),
+        refused => refuse(t, refused, reply),
     }
 }
 
@@ -107,6 +104,6 @@ pub fn take_line(t: &mut [u8], p: Option<Order>, reply: &mut [u8]) -> u32
 {
     match p {
         Some(o) => take_order(t, o, reply),
-        None => refuse(t, Verdict::NoForm, reply),
+        None => refuse(t, Err(Refusal::NoForm), reply),
     }
 }

@@ -1,4 +1,5 @@
 -- Replies computed by the definitions. Each list is one statement, and its proof is the computation.
+use Rattle.std.specs.Prelude.{Result, Ok, Err}
 use mathlib.Core.Path.{◌≡◌, refl}
 use mathlib.Core.List.{List, [], ◌∷◌, ◌++◌, map}
 use mathlib.Core.Bool.{true, false}
@@ -10,7 +11,7 @@ use Rattle.record.specs.declared.Wiring.{Wiring}
 use Rattle.record.specs.declared.Motor.{Motor}
 use Rattle.record.specs.Record.{fresh_motor, standing, with_place, with_speeds, with_wiring, with_setup, with_drive}
 use Rattle.drive.specs.declared.Course.TheVariants.{To, Along}
-use Rattle.drive.specs.declared.Verdict.TheVariants.{Done, NoForm, Busy, OutOfRange, WrongSize, NotSound, LocalMode, Disabled, Unread, SwitchAhead, AtLimit, AtRangeEnd, NotDriving}
+use Rattle.drive.specs.declared.Refusal.TheVariants.{NoForm, Busy, OutOfRange, WrongSize, NotSound, LocalMode, Disabled, Unread, SwitchAhead, AtLimit, AtRangeEnd, NotDriving}
 use Rattle.drive.specs.Drives.{started, released, stopped, contacted}
 use Rattle.table.specs.declared.head.Head.{Head}
 use Rattle.table.specs.Layout.{with_mode, with_pause, with_busy}
@@ -21,15 +22,15 @@ use Rattle.replies.specs.Computing.{computing_replies}
 
 -- Every verdict has its text where all-reply is on: 5 and 6 have none. Numbers that no verdict has yet have NG.
 texts :
-    (map (echo 1) (Done ∷ NoForm ∷ Busy ∷ OutOfRange ∷ [])
+    (map (echo 1) ((Ok tt) ∷ (Err NoForm) ∷ (Err Busy) ∷ (Err OutOfRange) ∷ [])
     ≡ bytes "OK" ∷ bytes "COMMAND ERROR" ∷ bytes "MCC06 BUSY ERROR" ∷ bytes "PARAMETER ERROR" ∷ [])
-    × (map (echo 1) (LocalMode ∷ Disabled ∷ Unread ∷ SwitchAhead ∷ AtLimit ∷ AtRangeEnd ∷ NotDriving ∷ []) ≡ replicate 7 (bytes "NG"))
-    × (map (echo 1) (WrongSize ∷ NotSound ∷ []) ≡ [] ∷ [] ∷ []) × (map text_of (14 ∷ 15 ∷ 16 ∷ 17 ∷ []) ≡ replicate 4 (bytes "NG"))
+    × (map (echo 1) ((Err LocalMode) ∷ (Err Disabled) ∷ (Err Unread) ∷ (Err SwitchAhead) ∷ (Err AtLimit) ∷ (Err AtRangeEnd) ∷ (Err NotDriving) ∷ []) ≡ replicate 7 (bytes "NG"))
+    × (map (echo 1) ((Err WrongSize) ∷ (Err NotSound) ∷ []) ≡ [] ∷ [] ∷ []) × (map text_of (14 ∷ 15 ∷ 16 ∷ 17 ∷ []) ≡ replicate 4 (bytes "NG"))
 unfolding computing_replies
 texts = (refl, refl, refl, refl)
 
 -- Where it is off, no verdict has one.
-silent : map (echo 0) (Done ∷ NoForm ∷ Busy ∷ OutOfRange ∷ LocalMode ∷ NotDriving ∷ []) ≡ replicate 6 []
+silent : map (echo 0) ((Ok tt) ∷ (Err NoForm) ∷ (Err Busy) ∷ (Err OutOfRange) ∷ (Err LocalMode) ∷ (Err NotDriving) ∷ []) ≡ replicate 6 []
 unfolding computing_replies
 silent = refl
 

@@ -1,4 +1,5 @@
 -- How long a reply is. Assumes nothing.
+use Rattle.std.specs.Prelude.{Result, Ok, Err}
 use mathlib.Core.Path.{◌≡◌, refl, sym}
 use mathlib.Core.List.{List, []}
 use mathlib.Core.Bool.{Bool, true, false, ◌||◌, cond}
@@ -15,7 +16,7 @@ use Rattle.record.specs.declared.Motor.{Motor}
 use Rattle.record.specs.declared.Setup.{Setup}
 use Rattle.motor.specs.Sound.{setup_in_range}
 use Rattle.motor.proofs.SoundLaws.{and_l, and_r}
-use Rattle.drive.specs.declared.Verdict.{Verdict}
+use Rattle.drive.specs.Numbers.{Verdict}
 use Rattle.drive.specs.Numbers.{number_of}
 use Rattle.drive.specs.Drives.{speed_numbered}
 use Rattle.table.specs.declared.head.Head.{Head}

@@ -1,11 +1,12 @@
 -- Document 01, "Numbers handed back": what is answered.
+use Rattle.std.specs.Prelude.{Result, Ok, Err}
 use Rattle.std.specs.Prelude.{ℕ, ◌-◌, List, [], ◌∷◌, cond, eqb}
 use Rattle.digits.specs.Words.{bit, is_set, bits_set}
 use Rattle.text.specs.Text.{bytes, digit_byte, decimal, hex_byte, hex_word}
 use Rattle.record.specs.declared.Setup.{Setup}
 use Rattle.record.specs.declared.Motor.{Motor}
 use Rattle.status.specs.Status.{position_text, mode_letter, status_text}
-use Rattle.drive.specs.declared.Verdict.{Verdict}
+use Rattle.drive.specs.Numbers.{Verdict}
 use Rattle.drive.specs.Numbers.{number_of, is_silent}
 use Rattle.drive.specs.Drives.{speed_numbered}
 use Rattle.table.specs.declared.head.Head.{Head}

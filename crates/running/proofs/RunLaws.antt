@@ -1,4 +1,5 @@
 -- What running a line goes by: how long a text is, and what the jobs of a line keep within. Assumes nothing.
+use Rattle.std.specs.Prelude.{Result, Ok, Err}
 use Rattle.std.specs.Prelude.{Option, Some, None}
 use Prim.Native.Char.{code}
 use Prim.Native.Nat.{ℕ, zero, suc, ◌*◌, ◌-◌, ◌/◌, ◌%◌, ◌≤◌, ◌<◌}
@@ -12,8 +13,8 @@ use Rattle.digits.specs.Bytes.{gather}
 use Rattle.digits.specs.Places.{origin}
 use Rattle.text.specs.Text.{bytes, digit_value, is_hex, hex_value, digits_at_front, value_of}
 use Rattle.text.proofs.TextLaws.{decimal_within}
-use Rattle.drive.specs.declared.Verdict.{Verdict}
-use Rattle.drive.specs.declared.Verdict.TheVariants.{Done, NoForm, WrongSize, NotSound}
+use Rattle.drive.specs.Numbers.{Verdict}
+use Rattle.drive.specs.declared.Refusal.TheVariants.{NoForm, WrongSize, NotSound}
 use Rattle.drive.specs.Numbers.{number_of}
 use Rattle.line.specs.declared.Order.{Order}
 use Rattle.line.specs.declared.Order.TheVariants.{Go, Stop, StopAll, ChangeSpeed, Set, Ask, AskHead, ForHead}
@@ -38,14 +39,14 @@ use Rattle.jobs.proofs.OutLaws.{reply_within, net_within}
 -- No reply is longer than 17 bytes, whatever the table, the line and the buffer.
 answer_within : (t : List ℕ) (o : Order) → length (answer t o) ≤ 17
 unfolding answer
-answer_within t (Go x s) = echo_within (head_of t).reply Done
-answer_within t (Stop x e) = echo_within (head_of t).reply Done
-answer_within t (StopAll e) = echo_within (head_of t).reply Done
-answer_within t (ChangeSpeed x v) = echo_within (head_of t).reply Done
-answer_within t (Set x s) = echo_within (head_of t).reply Done
+answer_within t (Go x s) = echo_within (head_of t).reply (Ok tt)
+answer_within t (Stop x e) = echo_within (head_of t).reply (Ok tt)
+answer_within t (StopAll e) = echo_within (head_of t).reply (Ok tt)
+answer_within t (ChangeSpeed x v) = echo_within (head_of t).reply (Ok tt)
+answer_within t (Set x s) = echo_within (head_of t).reply (Ok tt)
 answer_within t (Ask x q) = question_within (head_of t).mode x (motor_at t x) q
 answer_within t (AskHead q) = head_within (head_of t) q
-answer_within t (ForHead h) = echo_within (head_of t).reply Done
+answer_within t (ForHead h) = echo_within (head_of t).reply (Ok tt)
 
 refused_within : (t : List ℕ) (v : Verdict) (reply : List ℕ) → (refused t v reply).result / 256 ≤ 17
 unfolding refused
@@ -53,11 +54,11 @@ refused_within t v reply = omega (arith, (numbered v).small, echo_within (head_o
 
 obeyed_within : (t : List ℕ) (o : Order) (reply : List ℕ) → (obeyed t o reply).result / 256 ≤ 17
 unfolding obeyed
-obeyed_within t o reply = omega (arith, (numbered Done).small, answer_within (changed t o) o)
+obeyed_within t o reply = omega (arith, (numbered (Ok tt)).small, answer_within (changed t o) o)
 
 taken_within : (t : List ℕ) (p : Option Order) (reply : List ℕ) → (taken t p reply).result / 256 ≤ 17
 unfolding taken
-taken_within t None reply = refused_within t NoForm reply
+taken_within t None reply = refused_within t (Err NoForm) reply
 taken_within t (Some o) reply = go (eqb (number_of (judge t o)) 0)
   where
     go : (b : Bool) → (cond b (obeyed t o reply) (refused t (judge t o) reply)).result / 256 ≤ 17
@@ -70,7 +71,7 @@ command_within t line reply = go (eqb (length t) table_size && leb 32 (length re
   where
     after : Bool → Bool → CommandAfter
     after sizes sound =
-        let v = cond sizes (cond sound Done NotSound) WrongSize in
+        let v = cond sizes (cond sound (Ok tt) (Err NotSound)) (Err WrongSize) in
         cond (eqb (number_of v) 0)
         (taken t (order_in t line) reply)
         (record { result = number_of v; table = t; reply = reply })

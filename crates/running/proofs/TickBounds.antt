@@ -1,5 +1,6 @@
 -- How far the counts of a tick go, for every table: on a sound one no motor gives more than 5,000 pulses, and on any other the
 -- buffer stays as it was. Assumes nothing.
+use Rattle.std.specs.Prelude.{Result, Ok, Err}
 use mathlib.Core.Path.{◌≡◌, refl}
 use mathlib.Core.Bool.{Bool, true, false, ◌&&◌, cond}
 use mathlib.Core.List.{List}
@@ -13,7 +14,7 @@ use Rattle.motor.specs.Sound.{sound_under}
 use Rattle.motor.proofs.RecordLaws.{record_motor_sound, under_record}
 use Rattle.pulses.specs.Ticks.{tick_motor, tick_count}
 use Rattle.drive.specs.Numbers.{number_of}
-use Rattle.drive.specs.declared.Verdict.TheVariants.{Done, WrongSize, NotSound}
+use Rattle.drive.specs.declared.Refusal.TheVariants.{WrongSize, NotSound}
 use Rattle.pulses.proofs.TickSound.{pulses_bound}
 use Rattle.table.specs.Layout.{table_size, head_of, paused, records, with_motors}
 use Rattle.table.specs.Sound.{sound_table}
@@ -41,9 +42,9 @@ tick_within t = go (eqb (length t) table_size && eqb (length {A = ℕ} (replicat
   where
     after : Bool → Bool → TickAfter
     after sizes sound =
-        let v = cond sizes (cond sound Done NotSound) WrongSize in
+        let v = cond sizes (cond sound (Ok tt) (Err NotSound)) (Err WrongSize) in
         cond (accepted v)
-        (record { result = number_of Done; table = with_motors t (λ m. (tick_motor m).motor); pulses = counts t })
+        (record { result = number_of (Ok tt); table = with_motors t (λ m. (tick_motor m).motor); pulses = counts t })
         (record { result = number_of v; table = t; pulses = replicate 64 0 })
 
     go : (sizes sound : Bool) → sound_table t ≡ sound → CountsWithin most_count (after sizes sound).pulses

@@ -1,10 +1,11 @@
 -- The four calls, each a function from all its inputs to all that it leaves: the result, the table, and the reply or the pulse
 -- buffer. The inputs are any lists and any numbers. What a line does on a sound table is `taken` of obeying/specs/Taking.antt.
+use Rattle.std.specs.Prelude.{Result, Ok, Err}
 use Rattle.std.specs.Prelude.{ℕ, Bool, ◌&&◌, cond, length, eqb, leb}
 use mathlib.Core.List.{List, flat_map}
 use Rattle.digits.specs.Words.{word_bytes}
-use Rattle.drive.specs.declared.Verdict.{Verdict}
-use Rattle.drive.specs.declared.Verdict.TheVariants.{Done, WrongSize, NotSound}
+use Rattle.drive.specs.Numbers.{Verdict}
+use Rattle.drive.specs.declared.Refusal.TheVariants.{WrongSize, NotSound}
 use Rattle.drive.specs.Numbers.{number_of}
 use Rattle.record.specs.Record.{motor_of}
 use Rattle.drive.specs.Drives.{switch_read}
@@ -15,7 +16,7 @@ use Rattle.obeying.specs.Taking.{accepted, CommandAfter, order_in, taken}
 
 -- "Order: 5, 6, ..": the sizes first, then the table
 abbrev pub refusal : Bool → List ℕ → Verdict
-refusal sizes_right t = cond sizes_right (cond (sound_table t) Done NotSound) WrongSize
+refusal sizes_right t = cond sizes_right (cond (sound_table t) (Ok tt) (Err NotSound)) (Err WrongSize)
 
 -- what a fresh call and a reading leave
 pub record TableAfter : Type 0 where
@@ -27,8 +28,8 @@ pub record TableAfter : Type 0 where
 unfoldable pub fresh_call : List ℕ → ℕ → TableAfter
 fresh_call t card =
     cond (eqb (length t) table_size && leb card 1)
-    (record { result = number_of Done; table = fresh_table card })
-    (record { result = number_of WrongSize; table = t })
+    (record { result = number_of (Ok tt); table = fresh_table card })
+    (record { result = number_of (Err WrongSize); table = t })
 
 -- the command call: "table not 1,088 bytes, reply buffer under 32" is 5; "5 and 6 change nothing anywhere"
 unfoldable pub command_call : List ℕ → List ℕ → List ℕ → CommandAfter
@@ -43,7 +44,7 @@ unfoldable pub reading_call : List ℕ → ℕ → ℕ → TableAfter
 reading_call t c n =
     let v = refusal (eqb (length t) table_size && leb c 15 && leb n 7) t in
     cond (accepted v)
-    (record { result = number_of Done; table = with_motor t c (switch_read (motor_at t c) n) })
+    (record { result = number_of (Ok tt); table = with_motor t c (switch_read (motor_at t c) n) })
     (record { result = number_of v; table = t })
 
 -- what a tick leaves
@@ -61,5 +62,5 @@ unfoldable pub tick_call : List ℕ → List ℕ → TickAfter
 tick_call t pulses =
     let v = refusal (eqb (length t) table_size && eqb (length pulses) 64) t in
     cond (accepted v)
-    (record { result = number_of Done; table = with_motors t (λ m. (tick_motor m).motor); pulses = counts t })
+    (record { result = number_of (Ok tt); table = with_motors t (λ m. (tick_motor m).motor); pulses = counts t })
     (record { result = number_of v; table = t; pulses = pulses })
