@@ -1,5 +1,5 @@
 -- Each operation on a sound motor leaves a sound motor, and a tick of one is small. Assumes nothing.
-use Rattle.std.specs.Prelude.{Result, Ok, Err}
+use Rattle.std.specs.Prelude.{Ok, Err}
 use mathlib.Core.Path.{◌≡◌, refl, sym, ◌∙◌}
 use mathlib.Core.Bool.{Bool, true, false, ◌&&◌, ◌||◌, not, cond, false≢true}
 use Prim.Native.Nat.{ℕ, ◌≤◌}

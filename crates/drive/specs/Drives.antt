@@ -1,5 +1,5 @@
 -- Document 01: what starts a drive, what changes it and what ends it.
-use Rattle.std.specs.Prelude.{Result, Ok, Err}
+use Rattle.std.specs.Prelude.{Ok, Err}
 use Rattle.std.specs.Prelude.{ℕ, Bool, true, ◌&&◌, ◌||◌, not, cond, eqb, ltb}
 use Rattle.digits.specs.Places.{origin, is_position, moved, cw, ccw}
 use Rattle.record.specs.declared.Speeds.{Speeds}

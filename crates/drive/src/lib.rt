@@ -11,10 +11,9 @@ ghost use Rattle.record.specs.Record.{with_drive};
 ghost use Rattle.drive.specs.Drives.{speed_numbered, course_to, towards, hindrance, judge_start, launched, started, released};
 ghost use Rattle.drive.specs.Drives.{ended_with, judge_speed_change, speed_changed, contacted, switch_read};
 
-use digits::choose;
 use digits::places::{CCW, CW, HIGHEST, LOWEST, ORIGIN, place_ahead};
 use motor::{is_blocked, is_busy, is_unread, range_end, room_of};
-use record::{Drive, Motor, Speeds};
+use record::{Drive, Motor, Speeds, Wiring, no_drive};
 
 // The end flag of a drive that a switch or the end of its room ended.
 pub const LSEND: u8 = 0x20;
@@ -54,20 +53,27 @@ pub type Verdict = Result<(), Refusal>;
 pub fn with_drive(m: Motor, ended: u8, d: Drive) -> Motor
     ensures { result ≡ with_drive m ended d }
 {
-    let mut n = m;
-    n.ended = ended;
-    n.drive = d;
-    n
+    Motor {
+        ended,
+        drive: d,
+        ..m
+    }
 }
 
 // One of LSPD, MSPD and HSPD, by its number.
+#[tactic(auto, unfolding(crate::specs::Drives::speed_numbered))]
 pub fn speed_numbered(k: u8, s: Speeds) -> u32
     ensures { result ≡ speed_numbered k s }
 {
-    choose(k == 0, s.low, choose(k == 1, s.middle, s.high))
+    match k {
+        0 => s.low,
+        1 => s.middle,
+        _ => s.high,
+    }
 }
 
 // Where n pulses from the place p in a direction lead a motor: nowhere if it stands there, or beyond the range, or there.
+#[tactic(auto, unfolding(crate::specs::Drives::course_to))]
 pub fn course_to(m: Motor, going: u8, p: u32, n: u32) -> Course
     ensures { result ≡ course_to m going p n }
 {
@@ -84,6 +90,7 @@ pub fn course_to(m: Motor, going: u8, p: u32, n: u32) -> Course
 }
 
 // The direction in which a place lies from here.
+#[tactic(auto, unfolding(crate::specs::Drives::towards))]
 fn direction_to(m: Motor, p: u32) -> u8
     ensures { result ≡ towards m p }
 {
@@ -91,6 +98,7 @@ fn direction_to(m: Motor, p: u32) -> u8
 }
 
 // What keeps a stopped motor from leaving in a direction, if something does; whether the card is full comes last.
+#[tactic(auto, unfolding(crate::specs::Drives::hindrance))]
 fn hindrance_to(full: bool, m: Motor, going: u8) -> Verdict
     ensures { result ≡ hindrance full m going }
 {
@@ -116,6 +124,7 @@ fn hindrance_to(full: bool, m: Motor, going: u8) -> Verdict
 }
 
 // How a start of a stopped motor is judged, where as many motors are busy as may be or not.
+#[tactic(auto, unfolding(crate::specs::Drives::judge_start))]
 pub fn judge_start(full: bool, m: Motor, c: Course) -> Verdict
     ensures { result ≡ judge_start full m c }
 {
@@ -145,6 +154,7 @@ fn launch(paused: bool, m: Motor, going: u8, kind: u8, target: u32) -> Motor
 }
 
 // The motor after an accepted start: a scan either way, to a target, or nowhere; held where pause is on.
+#[tactic(auto, unfolding(crate::specs::Drives::started))]
 pub fn start(paused: bool, m: Motor, c: Course) -> Motor
     ensures { result ≡ started paused m c }
 {
@@ -157,34 +167,30 @@ pub fn start(paused: bool, m: Motor, c: Course) -> Motor
 }
 
 // The motor with its drive held no more; every other motor stays as it is.
+#[tactic(auto, unfolding(crate::specs::Drives::released))]
 pub fn release(m: Motor) -> Motor
     ensures { result ≡ released m }
 {
-    let mut d = m.drive;
-    if d.held {
-        d.held = false;
-        with_drive(m, m.ended, d)
+    if m.drive.held {
+        let drive = Drive {
+            held: false,
+            ..m.drive
+        };
+        Motor { drive, ..m }
     } else {
         m
     }
 }
 
-// The motor with its drive ended: the flags say how, and nothing of the drive is left. It is cleared field by field, because for a
-// new drive in the place of the old one the compiler keeps both in memory.
+// The motor with its drive ended: the flags say how, and nothing of the drive is left.
 pub fn end_drive(m: Motor, flags: u8) -> Motor
     ensures { result ≡ ended_with flags m }
 {
-    let mut d = m.drive;
-    d.going = 0;
-    d.held = false;
-    d.kind = 0;
-    d.fraction = 0;
-    d.speed = 0;
-    d.target = ORIGIN;
-    with_drive(m, flags, d)
+    with_drive(m, flags, no_drive())
 }
 
 // How a change of the speed in force is judged.
+#[tactic(auto, unfolding(crate::specs::Drives::judge_speed_change))]
 pub fn judge_speed_change(m: Motor) -> Verdict
     ensures { result ≡ judge_speed_change m }
 {
@@ -196,27 +202,31 @@ pub fn judge_speed_change(m: Motor) -> Verdict
 }
 
 // The motor with another speed in force; what is carried stays.
+#[tactic(auto, unfolding(crate::specs::Drives::speed_changed))]
 pub fn change_speed(m: Motor, v: u32) -> Motor
     ensures { result ≡ speed_changed m v }
 {
-    let mut d = m.drive;
-    d.speed = v;
-    with_drive(m, m.ended, d)
+    let drive = Drive {
+        speed: v,
+        ..m.drive
+    };
+    Motor { drive, ..m }
 }
 
 // The motor with other contacts, which are known from now on.
 fn with_contacts(m: Motor, contacts: u8) -> Motor
     ensures { result ≡ contacted m contacts }
 {
-    let mut n = m;
-    let mut w = m.wiring;
-    w.contacts = contacts;
-    w.read = 1;
-    n.wiring = w;
-    n
+    let wiring = Wiring {
+        contacts,
+        read: 1,
+        ..m.wiring
+    };
+    Motor { wiring, ..m }
 }
 
 // The motor after a switch reading: a switch ahead that is now active and enabled ends the drive.
+#[tactic(auto, unfolding(crate::specs::Drives::switch_read))]
 pub fn read_switches(m: Motor, contacts: u8) -> Motor
     ensures { result ≡ switch_read m contacts }
 {

@@ -28,16 +28,14 @@ pub fn number_of(v: Verdict) -> u32
 }
 
 // The bit of the error flags: what is no other number's is the last one.
+#[tactic(auto, unfolding(crate::specs::Numbers::flag_bit))]
 pub fn flag_bit(n: u32) -> u8
     ensures { (result ≡ flag_bit n) × (result ≤ 3) }
 {
-    if n == 1 {
-        0
-    } else if n == 2 {
-        1
-    } else if n == 3 {
-        2
-    } else {
-        3
+    match n {
+        1 => 0,
+        2 => 1,
+        3 => 2,
+        _ => 3,
     }
 }

@@ -1,8 +1,0 @@
--- `drive::judge_speed_change` meets its contract. Assumes nothing.
-use Rattle.drive.proofs.judge_speed_change.Goals as goal
-
-pub returns-then-is_busy : goal.returns-then-is_busy
-returns-then-is_busy c = rw (← c.is_busy.ensures, c.if-is_busy.true)
-
-pub returns-else-is_busy : goal.returns-else-is_busy
-returns-else-is_busy c = rw (← c.is_busy.ensures, c.if-is_busy.false)
