@@ -37,11 +37,17 @@ fn form_at(s: &[u8], at: usize, second: bool, letters: u64) -> Option<Order>
     case_at(s, at, row)
 }
 
-// By the first row of a word, or else by its second.
+// By the first row of a word, or else by its second. One call of `form_at` stands for both, so that its code need be there once.
 fn either_at(s: &[u8], at: usize, letters: u64) -> Option<Order>
     ensures { result ≡ first_of (case_at false letters s.now at) (case_at true letters s.now at) }
 {
-    form_at(s, at, false, letters).or_else(|| form_at(s, at, true, letters))
+    for second in [false, true] {
+        let found = form_at(s, at, second, letters);
+        if found.is_some() {
+            return found;
+        }
+    }
+    None
 }
 
 // In more than 80 bytes there is no form.
