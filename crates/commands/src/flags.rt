@@ -1,15 +1,16 @@
 // The error flags: one is set by each refusal, and ERRCe clears one.
 
-ghost use Rattle.std.specs.Prelude.{◌≡◌, ◌^◌, ◌≤◌, length};
+ghost use Rattle.std.specs.Prelude.{◌≡◌, ◌^◌, ◌≤◌};
 ghost use Rattle.digits.specs.Words.{with_bit, without_bit};
 ghost use Rattle.drive.specs.Numbers.{number_of};
-ghost use Rattle.table.specs.Layout.{table_size, head_of, with_errors};
+ghost use Rattle.table.specs.Layout.{head_of, with_errors};
 ghost use Rattle.commands.specs.Changing.{flagged};
 
 use digits::is_set;
 use drive::Verdict;
 use drive::numbers::{flag_bit, number_of};
-use table::head::{Head, read_head, with_errors, write_head};
+use table::Table;
+use table::head::{Head, read_head, write_head};
 
 // The number whose only bit is bit k.
 fn power(k: u8) -> u8
@@ -34,13 +35,13 @@ fn without_bit(k: u8, n: u8) -> u8
 }
 
 // Sets the flag of a refusal.
-pub fn set_flag(t: &mut [u8], v: Verdict)
-    requires { (length t.old ≡ table_size) × ((head_of t.old).errors ≤ 15) }
+pub fn set_flag(t: &mut Table, v: Verdict)
+    requires { (head_of t.old).errors ≤ 15 }
     ensures { t.new ≡ flagged t.old (number_of v) }
 {
     let h = read_head(t);
     let flags = with_bit(flag_bit(number_of(v)), h.errors);
-    write_head(t, with_errors(h, flags));
+    write_head(t, Head { errors: flags, ..h });
 }
 
 // The head with flag e clear.
@@ -48,5 +49,8 @@ pub fn clear_flag(h: Head, e: u64) -> Head
     requires { e ≤ 3 }
     ensures { result ≡ with_errors h (without_bit e h.errors) }
 {
-    with_errors(h, without_bit(e as u8, h.errors))
+    Head {
+        errors: without_bit(e as u8, h.errors),
+        ..h
+    }
 }

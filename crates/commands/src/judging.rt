@@ -1,7 +1,7 @@
 // How an order is judged on a sound table: whether the card has its form, local mode, the value, busy, what lies in the motor, and for a
 // start whether the card is full.
 
-ghost use Rattle.std.specs.Prelude.{◌≡◌, true, cond, length, Ok, Err};
+ghost use Rattle.std.specs.Prelude.{◌≡◌, true, cond, Ok, Err};
 ghost use Rattle.motor.specs.Sound.{busy};
 ghost use Rattle.drive.specs.declared.Refusal.TheVariants.{Busy, NoForm};
 ghost use Rattle.drive.specs.Drives.{judge_start};
@@ -9,7 +9,7 @@ ghost use Rattle.line.specs.Forms.{has_form};
 ghost use Rattle.line.specs.Made.{order_made};
 ghost use Rattle.orders.specs.Values.{start_in_range, value_in_range};
 ghost use Rattle.orders.specs.Settings.{course_of};
-ghost use Rattle.table.specs.Layout.{table_size, head_of, card_full};
+ghost use Rattle.table.specs.Layout.{head_of, card_full};
 ghost use Rattle.commands.specs.Judging.{meets_busy, judge_motor, judge};
 
 use drive::{Refusal, Verdict, judge_speed_change, judge_start};
@@ -20,7 +20,7 @@ use orders::settings::course_of;
 use orders::values::{needs_remote, value_in_range};
 use record::Motor;
 use table::head::{is_full, read_head};
-use table::motor_at;
+use table::{Table, motor_at};
 
 // A setting or a selection: busy on a driving channel.
 fn judge_set(m: Motor) -> Verdict
@@ -43,8 +43,8 @@ fn judge_go(full: bool, m: Motor, s: Start) -> Verdict
 }
 
 // What is judged of the channel that an order names, if it names one.
-fn judge_channel(t: &[u8], o: Order) -> Verdict
-    requires { (length t.now ≡ table_size) × (order_made o ≡ true) × (value_in_range o ≡ true) }
+fn judge_channel(t: &Table, o: Order) -> Verdict
+    requires { (order_made o ≡ true) × (value_in_range o ≡ true) }
     ensures { result ≡ cond (meets_busy t.now o) (Err Busy) (judge_motor (card_full (head_of t.now)) t.now o) }
 {
     match o {
@@ -56,8 +56,8 @@ fn judge_channel(t: &[u8], o: Order) -> Verdict
 }
 
 // The verdict of an order: 1 where the table's card has not its form, and else by the rules.
-pub fn judge_order(t: &[u8], o: Order) -> Verdict
-    requires { (length t.now ≡ table_size) × (order_made o ≡ true) }
+pub fn judge_order(t: &Table, o: Order) -> Verdict
+    requires { order_made o ≡ true }
     ensures { result ≡ cond (has_form (head_of t.now).card o) (judge t.now o) (Err NoForm) }
 {
     let head = read_head(t);

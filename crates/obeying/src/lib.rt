@@ -23,7 +23,7 @@ use drive::numbers::number_of;
 use line::{HeadQuestion, Order, Question};
 use replies::{write_echo, write_head_question, write_question};
 use table::head::read_head;
-use table::motor_at;
+use table::{Table, motor_at};
 
 // The number plus 256 times the reply's length.
 fn result_of(v: Verdict, count: usize) -> u32
@@ -34,7 +34,7 @@ fn result_of(v: Verdict, count: usize) -> u32
 }
 
 // Refuses a line: its flag is set, and its text written if all-reply is on.
-fn refuse(t: &mut [u8], v: Verdict, reply: &mut [u8]) -> u32
+fn refuse(t: &mut Table, v: Verdict, reply: &mut [u8]) -> u32
     requires { (sound_table t.old ≡ true) × (32 ≤ length reply.old) }
     ensures { record { result = result; table = t.new; reply = reply.new } ≡ refused t.old v reply.old }
 {
@@ -45,7 +45,7 @@ fn refuse(t: &mut [u8], v: Verdict, reply: &mut [u8]) -> u32
 }
 
 // Answers a question about a channel; the table stays as it is.
-fn tell_channel(t: &[u8], x: u8, q: Question, reply: &mut [u8]) -> u32
+fn tell_channel(t: &Table, x: u8, q: Question, reply: &mut [u8]) -> u32
     requires { (sound_table t.now ≡ true) × (32 ≤ length reply.old) × (x ≤ 15) }
     ensures { record { result = result; table = t.now; reply = reply.new } ≡ obeyed t.now (Ask x q) reply.old }
 {
@@ -55,7 +55,7 @@ fn tell_channel(t: &[u8], x: u8, q: Question, reply: &mut [u8]) -> u32
 }
 
 // Answers a question about the head; the table stays as it is.
-fn tell_head(t: &[u8], q: HeadQuestion, reply: &mut [u8]) -> u32
+fn tell_head(t: &Table, q: HeadQuestion, reply: &mut [u8]) -> u32
     requires { (sound_table t.now ≡ true) × (32 ≤ length reply.old) }
     ensures { record { result = result; table = t.now; reply = reply.new } ≡ obeyed t.now (AskHead q) reply.old }
 {
@@ -64,7 +64,7 @@ fn tell_head(t: &[u8], q: HeadQuestion, reply: &mut [u8]) -> u32
 }
 
 // Carries out an accepted order: the table is changed, and OK written if all-reply is on after it.
-fn carry_out(t: &mut [u8], o: Order, reply: &mut [u8]) -> u32
+fn carry_out(t: &mut Table, o: Order, reply: &mut [u8]) -> u32
     requires { (sound_table t.old ≡ true) × (32 ≤ length reply.old) × (order_made o ≡ true) × (value_in_range o ≡ true) }
     ensures { record { result = result; table = t.new; reply = reply.new } ≡ replied (Ok tt) (changed t.old o) (told (changed t.old o) (Ok tt)) reply.old }
 {
@@ -75,7 +75,7 @@ fn carry_out(t: &mut [u8], o: Order, reply: &mut [u8]) -> u32
 }
 
 // Obeys an accepted order and writes its answer.
-fn obey(t: &mut [u8], o: Order, reply: &mut [u8]) -> u32
+fn obey(t: &mut Table, o: Order, reply: &mut [u8]) -> u32
     requires { (sound_table t.old ≡ true) × (32 ≤ length reply.old) × (order_made o ≡ true) × (value_in_range o ≡ true) }
     ensures { record { result = result; table = t.new; reply = reply.new } ≡ obeyed t.old o reply.old }
 {
@@ -87,7 +87,7 @@ fn obey(t: &mut [u8], o: Order, reply: &mut [u8]) -> u32
 }
 
 // Judges an order, and obeys or refuses it.
-fn take_order(t: &mut [u8], o: Order, reply: &mut [u8]) -> u32
+fn take_order(t: &mut Table, o: Order, reply: &mut [u8]) -> u32
     requires { (sound_table t.old ≡ true) × (32 ≤ length reply.old) × (order_made o ≡ true) }
     ensures { record { result = result; table = t.new; reply = reply.new } ≡ taken t.old (on_card (head_of t.old).card (Some o)) reply.old }
 {
@@ -98,7 +98,7 @@ fn take_order(t: &mut [u8], o: Order, reply: &mut [u8]) -> u32
 }
 
 // Takes what a line is: an order, or nothing.
-pub fn take_line(t: &mut [u8], p: Option<Order>, reply: &mut [u8]) -> u32
+pub fn take_line(t: &mut Table, p: Option<Order>, reply: &mut [u8]) -> u32
     requires { (sound_table t.old ≡ true) × (32 ≤ length reply.old) × (parsed_made p ≡ true) }
     ensures { record { result = result; table = t.new; reply = reply.new } ≡ taken t.old (on_card (head_of t.old).card p) reply.old }
 {

@@ -15,9 +15,6 @@ use Rattle.orders.specs.Values.{signed_in_range, binary_digits, setting_in_range
 pub signed_bound : (w : Written) → signed_in_range w ≡ true → w.digits ≤ 2147483647
 signed_bound w e = leb-true w.digits 2147483647 e
 
-pub speed_bound : (v : ℕ) → is_speed v ≡ true → v ≤ 5000000
-speed_bound v e = leb-true v 5000000 (and_r (leb 1 v) (leb v 5000000) e)
-
 -- four digits of which each is 0 or 1
 pub record Binary (q : Four) : Type 0 where
   pub a : q.a ≤ 1
@@ -38,9 +35,3 @@ binary_bound q e =
       c = leb-true q.c 1 (and_r (a && b) c abc);
       d = leb-true q.d 1 (and_r (a && b && c) (leb q.d 1) e);
     }
-
--- The eight digits of SETLS are in range where each group of four is.
-pub switches_binary : (s : Setting) (q r : Four) → s ≡ SetSwitches q r → setting_in_range s ≡ true → (binary_digits q ≡ true) × (binary_digits r ≡ true)
-switches_binary s q r p e =
-    let both : (binary_digits q && binary_digits r) ≡ true = rw p at e in
-    (and_l (binary_digits q) (binary_digits r) both, and_r (binary_digits q) (binary_digits r) both)

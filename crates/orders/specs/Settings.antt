@@ -32,7 +32,7 @@ course_of m (Jog going) = course_to m going m.place 1
 
 -- the speeds with another one selected
 abbrev pub selecting : Speeds → ℕ → Speeds
-selecting s k = record { high = s.high; middle = s.middle; low = s.low; selected = k }
+selecting s k = record s { selected = k }
 
 -- "0 L, 1 M, 2 H": the speeds with the one numbered k replaced
 abbrev pub with_speed : Speeds → ℕ → ℕ → Speeds

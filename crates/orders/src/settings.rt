@@ -1,17 +1,15 @@
 // What a start or a setting means for the motor that it names. Each takes a value in its range, as an accepted order has.
 
 ghost use Rattle.std.specs.Prelude.{◌≡◌, true, ◌<◌};
-ghost use Rattle.record.specs.Record.{with_place, with_limits, with_speeds, with_wiring, with_setup};
 ghost use Rattle.motor.specs.Sound.{is_speed};
 ghost use Rattle.orders.specs.Values.{signed_in_range, binary_digits, start_in_range, setting_in_range};
-ghost use Rattle.orders.specs.Settings.{direction_of, place_written, course_of, with_speed, selecting, binary, with_setting};
+ghost use Rattle.orders.specs.Settings.{direction_of, place_written, course_of, with_speed, binary, with_setting};
 
 use crate::values::setup_written;
-use digits::choose;
 use digits::places::{CCW, CW, ORIGIN};
 use drive::{Course, course_to};
 use line::{Four, Setting, Start, Written};
-use record::{Limits, Motor, Setup};
+use record::{Limits, Motor, Speeds, Wiring};
 
 // The direction that a sign means.
 fn direction_of(w: Written) -> u8
@@ -29,6 +27,7 @@ fn distance_written(w: Written) -> u32
 }
 
 // The place of the position that a number with a sign names.
+#[tactic(auto, using(crate::proofs::ValueLaws::signed_bound))]
 fn place_written(w: Written) -> u32
     requires { signed_in_range w ≡ true }
     ensures { result ≡ place_written w }
@@ -53,72 +52,25 @@ pub fn course_of(m: Motor, s: Start) -> Course
     }
 }
 
-fn with_place(m: Motor, p: u32) -> Motor
-    ensures { result ≡ with_place m p }
+// The speeds with one of LSPD, MSPD and HSPD replaced, by its number.
+fn with_speed(s: Speeds, k: u8, v: u32) -> Speeds
+    ensures { result ≡ with_speed s k v }
 {
-    let mut n = m;
-    n.place = p;
-    n
-}
-
-fn with_limits(m: Motor, cw: u32, ccw: u32) -> Motor
-    ensures { result ≡ with_limits m (record { cw = cw; ccw = ccw }) }
-{
-    let mut n = m;
-    let limits = Limits { cw, ccw };
-    n.limits = limits;
-    n
-}
-
-// The motor with another speed selected.
-fn with_selected(m: Motor, k: u8) -> Motor
-    ensures { result ≡ with_speeds m (selecting m.speeds k) }
-{
-    let mut n = m;
-    let mut s = m.speeds;
-    s.selected = k;
-    n.speeds = s;
-    n
-}
-
-// The motor with one of LSPD, MSPD and HSPD replaced, by its number.
-fn with_speed(m: Motor, k: u8, v: u32) -> Motor
-    ensures { result ≡ with_speeds m (with_speed m.speeds k v) }
-{
-    let mut n = m;
-    let mut s = m.speeds;
-    s.high = choose(k == 2, v, s.high);
-    s.middle = choose(k == 1, v, s.middle);
-    s.low = choose(k == 0, v, s.low);
-    n.speeds = s;
-    n
+    match k {
+        0 => Speeds { low: v, ..s },
+        1 => Speeds { middle: v, ..s },
+        2 => Speeds { high: v, ..s },
+        _ => s,
+    }
 }
 
 // Four digits of 0 and 1 read as binary.
+#[tactic(auto, using(crate::proofs::ValueLaws::binary_bound))]
 fn binary_of(q: Four) -> u8
     requires { binary_digits q ≡ true }
     ensures { (result ≡ binary q) × (result < 16) }
 {
     8 * q.a + 4 * q.b + 2 * q.c + q.d
-}
-
-// The motor with other SETLS digits; the contacts stay, known or not.
-fn with_switches(m: Motor, setls: u8) -> Motor
-    ensures { result ≡ with_wiring m (record { setls = setls; contacts = m.wiring.contacts; read = m.wiring.read }) }
-{
-    let mut n = m;
-    let mut w = m.wiring;
-    w.setls = setls;
-    n.wiring = w;
-    n
-}
-
-fn with_setup(m: Motor, s: Setup) -> Motor
-    ensures { result ≡ with_setup m s }
-{
-    let mut n = m;
-    n.setup = s;
-    n
 }
 
 // A speed as a motor holds it.
@@ -129,18 +81,52 @@ pub fn speed_written(v: u64) -> u32
     v as u32
 }
 
-// The motor after an accepted setting.
+// The motor after an accepted setting. SETLS leaves the contacts, known or not.
+#[tactic(auto, unfolding(crate::specs::Settings::with_setting))]
 pub fn with_setting(m: Motor, s: Setting) -> Motor
     requires { setting_in_range s ≡ true }
     ensures { result ≡ with_setting m s }
 {
     match s {
-        Setting::Preset(w) => with_place(m, place_written(w)),
-        Setting::SetCwLimit(w) => with_limits(m, place_written(w), m.limits.ccw),
-        Setting::SetCcwLimit(w) => with_limits(m, m.limits.cw, place_written(w)),
-        Setting::Select(k) => with_selected(m, k),
-        Setting::SetSpeed(k, v) => with_speed(m, k, speed_written(v)),
-        Setting::SetSwitches(q, r) => with_switches(m, 16 * binary_of(q) + binary_of(r)),
-        Setting::SetMotor(q) => with_setup(m, setup_written(q)),
+        Setting::Preset(w) => Motor {
+            place: place_written(w),
+            ..m
+        },
+        Setting::SetCwLimit(w) => Motor {
+            limits: Limits {
+                cw: place_written(w),
+                ..m.limits
+            },
+            ..m
+        },
+        Setting::SetCcwLimit(w) => Motor {
+            limits: Limits {
+                ccw: place_written(w),
+                ..m.limits
+            },
+            ..m
+        },
+        Setting::Select(k) => Motor {
+            speeds: Speeds {
+                selected: k,
+                ..m.speeds
+            },
+            ..m
+        },
+        Setting::SetSpeed(k, v) => Motor {
+            speeds: with_speed(m.speeds, k, speed_written(v)),
+            ..m
+        },
+        Setting::SetSwitches(q, r) => Motor {
+            wiring: Wiring {
+                setls: 16 * binary_of(q) + binary_of(r),
+                ..m.wiring
+            },
+            ..m
+        },
+        Setting::SetMotor(q) => Motor {
+            setup: setup_written(q),
+            ..m
+        },
     }
 }

@@ -14,26 +14,19 @@ fn head_needs_remote(h: HeadOrder) -> bool
     ensures { result ≡ head_needs_remote h }
 {
     match h {
-        HeadOrder::Mode(_) => false,
-        HeadOrder::AllReply(_) => true,
-        HeadOrder::ClearErrors => false,
-        HeadOrder::ClearError(_) => false,
-        HeadOrder::Pause(_) => true,
+        HeadOrder::AllReply(_) | HeadOrder::Pause(_) => true,
+        HeadOrder::Mode(_) | HeadOrder::ClearErrors | HeadOrder::ClearError(_) => false,
     }
 }
 
 // Whether an order is taken in remote mode only.
+#[tactic(auto, unfolding(crate::specs::Values::needs_remote))]
 pub fn needs_remote(o: Order) -> bool
     ensures { result ≡ needs_remote o }
 {
     match o {
-        Order::Go(_, _) => true,
-        Order::Stop(_, _) => false,
-        Order::StopAll(_) => false,
-        Order::ChangeSpeed(_, _) => true,
-        Order::Set(_, _) => true,
-        Order::Ask(_, _) => false,
-        Order::AskHead(_) => false,
+        Order::Go(_, _) | Order::ChangeSpeed(_, _) | Order::Set(_, _) => true,
+        Order::Stop(_, _) | Order::StopAll(_) | Order::Ask(_, _) | Order::AskHead(_) => false,
         Order::ForHead(h) => head_needs_remote(h),
     }
 }
@@ -59,7 +52,7 @@ fn binary_digits(q: Four) -> bool
     (q.a <= 1) & (q.b <= 1) & (q.c <= 1) & (q.d <= 1)
 }
 
-// The SETMT digits as they were written.
+// The SETMT digits as they were written. It is no `From`: an impl stands with one of its types, and neither is this crate's.
 pub fn setup_written(q: Four) -> Setup
     ensures { result ≡ setup_written q }
 {
@@ -76,10 +69,8 @@ fn start_in_range(s: Start) -> bool
     ensures { result ≡ start_in_range s }
 {
     match s {
-        Start::Abs(w) => signed_in_range(w),
-        Start::Rel(w) => signed_in_range(w),
-        Start::Scan(_) => true,
-        Start::Jog(_) => true,
+        Start::Abs(w) | Start::Rel(w) => signed_in_range(w),
+        Start::Scan(_) | Start::Jog(_) => true,
     }
 }
 
@@ -88,9 +79,7 @@ fn setting_in_range(s: Setting) -> bool
     ensures { result ≡ setting_in_range s }
 {
     match s {
-        Setting::Preset(w) => signed_in_range(w),
-        Setting::SetCwLimit(w) => signed_in_range(w),
-        Setting::SetCcwLimit(w) => signed_in_range(w),
+        Setting::Preset(w) | Setting::SetCwLimit(w) | Setting::SetCcwLimit(w) => signed_in_range(w),
         Setting::Select(_) => true,
         Setting::SetSpeed(_, v) => speed_in_range(v),
         Setting::SetSwitches(q, r) => binary_digits(q) & binary_digits(r),
@@ -103,26 +92,24 @@ fn head_value_in_range(h: HeadOrder) -> bool
     ensures { result ≡ head_value_in_range h }
 {
     match h {
-        HeadOrder::Mode(_) => true,
-        HeadOrder::AllReply(_) => true,
-        HeadOrder::ClearErrors => true,
         HeadOrder::ClearError(e) => e <= 3,
-        HeadOrder::Pause(_) => true,
+        HeadOrder::Mode(_)
+        | HeadOrder::AllReply(_)
+        | HeadOrder::ClearErrors
+        | HeadOrder::Pause(_) => true,
     }
 }
 
 // Whether the value that an order carries is in its range.
+#[tactic(auto, unfolding(crate::specs::Values::value_in_range))]
 pub fn value_in_range(o: Order) -> bool
     ensures { result ≡ value_in_range o }
 {
     match o {
         Order::Go(_, s) => start_in_range(s),
-        Order::Stop(_, _) => true,
-        Order::StopAll(_) => true,
         Order::ChangeSpeed(_, v) => speed_in_range(v),
         Order::Set(_, s) => setting_in_range(s),
-        Order::Ask(_, _) => true,
-        Order::AskHead(_) => true,
         Order::ForHead(h) => head_value_in_range(h),
+        Order::Stop(_, _) | Order::StopAll(_) | Order::Ask(_, _) | Order::AskHead(_) => true,
     }
 }

@@ -51,23 +51,23 @@ with_head t h = put t 0 (head_bytes h)
 
 -- the head with another mode
 abbrev pub with_mode : Head → ℕ → Head
-with_mode h n = record { mode = n; reply = h.reply; errors = h.errors; pause = h.pause; busy = h.busy; card = h.card }
+with_mode h n = record h { mode = n }
 
 -- the head with another all-reply
 abbrev pub with_reply : Head → ℕ → Head
-with_reply h n = record { mode = h.mode; reply = n; errors = h.errors; pause = h.pause; busy = h.busy; card = h.card }
+with_reply h n = record h { reply = n }
 
 -- the head with other error flags
 abbrev pub with_errors : Head → ℕ → Head
-with_errors h n = record { mode = h.mode; reply = h.reply; errors = n; pause = h.pause; busy = h.busy; card = h.card }
+with_errors h n = record h { errors = n }
 
 -- the head with pause on or off
 abbrev pub with_pause : Head → ℕ → Head
-with_pause h n = record { mode = h.mode; reply = h.reply; errors = h.errors; pause = n; busy = h.busy; card = h.card }
+with_pause h n = record h { pause = n }
 
 -- the head with another busy set
 abbrev pub with_busy : Head → ℕ → Head
-with_busy h n = record { mode = h.mode; reply = h.reply; errors = h.errors; pause = h.pause; busy = n; card = h.card }
+with_busy h n = record h { busy = n }
 
 -- "the record of channel c starts at 64 + 64c"
 abbrev pub record_start : ℕ → ℕ

@@ -1,12 +1,13 @@
 // The head of the table, its first 64 bytes, by value: the mode, all-reply, the error flags, pause, the busy set and the card; the rest is
 // zero. Whoever changes one field reads the head, sets the field, and writes the head back.
 
-ghost use Rattle.std.specs.Prelude.{◌≡◌, ◌&&◌, [], ◌∷◌, leb, length};
+ghost use Rattle.std.specs.Prelude.{◌≡◌, ◌&&◌, [], ◌∷◌, leb};
 ghost use Rattle.digits.specs.Bytes.{part, put, all_zero};
 ghost use Rattle.digits.specs.Words.{bits_set};
-ghost use Rattle.table.specs.Layout.{table_size, head_used, head_rest, head_of, set_bytes, paused, most_busy, card_full, with_head, with_mode, with_reply, with_errors, with_pause};
+ghost use Rattle.table.specs.Layout.{head_used, head_rest, head_of, set_bytes, paused, most_busy, card_full, with_head};
 ghost use Rattle.table.specs.Sound.{sound_head};
 
+use crate::Table;
 use digits::sets::count;
 use digits::words::{byte_at, short_at, wide_at};
 
@@ -23,8 +24,8 @@ pub struct Head {
 }
 
 // The head that a table holds.
-pub fn read_head(t: &[u8]) -> Head
-    requires { length t.now ≡ table_size }
+#[tactic(auto, unfolding(crate::specs::Layout::head_of))]
+pub fn read_head(t: &Table) -> Head
     ensures { result ≡ head_of t.now }
 {
     Head {
@@ -38,8 +39,7 @@ pub fn read_head(t: &[u8]) -> Head
 }
 
 // Writes the busy set alone.
-pub fn write_busy(t: &mut [u8], set: u16)
-    requires { length t.old ≡ table_size }
+pub fn write_busy(t: &mut Table, set: u16)
     ensures { t.new ≡ put t.old 4 (set_bytes set) }
 {
     t[4] = (set % 256) as u8;
@@ -47,8 +47,7 @@ pub fn write_busy(t: &mut [u8], set: u16)
 }
 
 // Writes the fields of one byte.
-fn write_settings(t: &mut [u8], h: Head)
-    requires { length t.old ≡ table_size }
+fn write_settings(t: &mut Table, h: Head)
     ensures { t.new ≡ put t.old 0 (h.mode ∷ h.reply ∷ h.errors ∷ h.pause ∷ []) }
 {
     t[0] = h.mode;
@@ -58,16 +57,15 @@ fn write_settings(t: &mut [u8], h: Head)
 }
 
 // Writes the card alone.
-pub fn write_card(t: &mut [u8], card: u8)
-    requires { length t.old ≡ table_size }
+pub fn write_card(t: &mut Table, card: u8)
     ensures { t.new ≡ put t.old 6 (card ∷ []) }
 {
     t[6] = card;
 }
 
 // Writes a head; every byte that it has no field for stays as it is.
-pub fn write_head(t: &mut [u8], h: Head)
-    requires { length t.old ≡ table_size }
+#[tactic(auto, using(digits::proofs::PutLaws::put_after), unfolding(crate::specs::Layout::with_head))]
+pub fn write_head(t: &mut Table, h: Head)
     ensures { t.new ≡ with_head t.old h }
 {
     write_settings(t, h);
@@ -91,6 +89,7 @@ fn most_busy(card: u8) -> u32
 
 // Whether as many motors are busy as the card lets, so that no start is taken. To count is dear, and for the sixteen-motor card one number
 // tells it.
+#[tactic(auto, using(crate::proofs::TableLaws::all_busy), unfolding(crate::specs::Layout::card_full))]
 pub fn is_full(h: Head) -> bool
     ensures { result ≡ card_full h }
 {
@@ -101,49 +100,13 @@ pub fn is_full(h: Head) -> bool
     }
 }
 
-// The head with one field set, and the others as they were.
-pub fn with_mode(h: Head, k: u8) -> Head
-    ensures { result ≡ with_mode h k }
-{
-    let mut n = h;
-    n.mode = k;
-    n
-}
-
-pub fn with_reply(h: Head, k: u8) -> Head
-    ensures { result ≡ with_reply h k }
-{
-    let mut n = h;
-    n.reply = k;
-    n
-}
-
-pub fn with_errors(h: Head, k: u8) -> Head
-    ensures { result ≡ with_errors h k }
-{
-    let mut n = h;
-    n.errors = k;
-    n
-}
-
-pub fn with_pause(h: Head, k: u8) -> Head
-    ensures { result ≡ with_pause h k }
-{
-    let mut n = h;
-    n.pause = k;
-    n
-}
-
 // Whether no more motors are busy than the card lets. Every call asks it, and to count is dear: of sixteen bits no more than sixteen are
 // set, so those of the sixteen-motor card are not counted.
+#[tactic(auto, using(digits::proofs::CountLaws::in_most))]
 fn is_few(card: u8, set: u16) -> bool
     ensures { result ≡ leb (bits_set set) (most_busy card) }
 {
-    if card == 0 {
-        true
-    } else {
-        count(set) <= most_busy(card)
-    }
+    card == 0 || count(set) <= most_busy(card)
 }
 
 // Whether the fields of a head are in their ranges, each by itself.
@@ -153,35 +116,18 @@ fn fields_in_range(h: Head) -> bool
     (h.mode <= 1) & (h.reply <= 1) & (h.errors <= 15) & (h.pause <= 1) & (h.card <= 1)
 }
 
-// Whether the bytes of the head that no field has, 7 to 63, are zero: words of eight bytes from 8 on, and the one before them.
-fn head_zero(t: &[u8]) -> bool
-    requires { length t.now ≡ table_size }
+// Whether the bytes of the head that no field has, 7 to 63, are zero: one, and words of eight bytes after it.
+fn head_zero(t: &Table) -> bool
     ensures { result ≡ all_zero (part t.now head_used head_rest) }
 {
-    let mut k: usize = 1;
-    while k < 8 {
-        if wide_at(t, 8 * k) == 0 {
-            k += 1;
-        } else {
-            return false;
-        }
-    }
-    byte_at(t, 7) == 0
+    byte_at(t, 7) == 0 && (1..8).all(|k| wide_at(t, 8 * k) == 0)
 }
 
 // Whether a head is sound; what has to be counted comes last.
-pub fn sound_head(t: &[u8]) -> bool
-    requires { length t.now ≡ table_size }
+#[tactic(auto, unfolding(crate::specs::Sound::sound_head, crate::specs::Sound::head_in_range))]
+pub fn sound_head(t: &Table) -> bool
     ensures { result ≡ sound_head t.now }
 {
     let h = read_head(t);
-    if fields_in_range(h) {
-        if head_zero(t) {
-            is_few(h.card, h.busy)
-        } else {
-            false
-        }
-    } else {
-        false
-    }
+    fields_in_range(h) && head_zero(t) && is_few(h.card, h.busy)
 }

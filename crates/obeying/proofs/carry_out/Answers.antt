@@ -1,13 +1,8 @@
 -- `obeying::carry_out` meets its contract. Assumes nothing.
-use Rattle.table.proofs.TableLaws.{sound_length}
-use borrow.Author.Rules.{rules}
 use Rattle.obeying.proofs.carry_out.Goals as goal
 
 pub change-requires : goal.change-requires
 change-requires c = (c.requires.0, c.requires.2, c.requires.3)
-
-pub read_head-h-requires : goal.read_head-h-requires
-read_head-h-requires c = search (rules, sound_length _ c.requires.0)
 
 pub returns : goal.returns
 returns c = rw (c.result_of.ensures, c.write_echo-count.ensures.wrote.count, c.write_echo-count.ensures.wrote.buffer, c.read_head-h.ensures, c.change.ensures)

@@ -1,15 +1,10 @@
 -- `obeying::refuse` meets its contract. Assumes nothing.
 use Rattle.obeying.specs.Taking.{refused}
 use Rattle.table.proofs.HeadLaws.{sound_range, range_errors}
-use Rattle.table.proofs.TableLaws.{sound_length}
-use borrow.Author.Rules.{rules}
 use Rattle.obeying.proofs.refuse.Goals as goal
 
 pub set_flag-requires : goal.set_flag-requires
-set_flag-requires c = let s = c.requires.0 in (sound_length _ s, range_errors _ (sound_range _ s))
-
-pub read_head-h-requires : goal.read_head-h-requires
-read_head-h-requires c = search (rules, sound_length _ c.requires.0)
+set_flag-requires c = range_errors _ (sound_range _ c.requires.0)
 
 pub returns : goal.returns
 unfolding refused

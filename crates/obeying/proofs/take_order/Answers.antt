@@ -7,12 +7,11 @@ use Rattle.obeying.proofs.NumberLaws.{judged_value, formed_judged, formed_obeyed
 use Rattle.drive.specs.Numbers.{number_of}
 use Rattle.line.specs.Forms.{has_form}
 use Rattle.table.specs.Layout.{head_of}
-use Rattle.table.proofs.TableLaws.{sound_length}
 use Rattle.commands.specs.Judging.{judge}
 use Rattle.obeying.proofs.take_order.Goals as goal
 
 pub judge_order-v-requires : goal.judge_order-v-requires
-judge_order-v-requires c = (sound_length _ c.requires.0, c.requires.2)
+judge_order-v-requires c = c.requires.2
 
 pub obey-requires : goal.obey-requires
 obey-requires c =

@@ -3,14 +3,8 @@ use Rattle.commands.specs.Answers.{answer}
 use Rattle.commands.specs.Changing.{changed}
 use Rattle.obeying.specs.Taking.{obeyed}
 use Rattle.obeying.proofs.TakingLaws.{setup_sound}
-use Rattle.table.proofs.TableLaws.{sound_length, sound_motor_at}
+use Rattle.table.proofs.TableLaws.{sound_motor_at}
 use Rattle.obeying.proofs.tell_channel.Goals as goal
-
-pub read_head-h-requires : goal.read_head-h-requires
-read_head-h-requires c = sound_length _ c.requires.0
-
-pub motor_at-requires : goal.motor_at-requires
-motor_at-requires c = (sound_length _ c.requires.0, c.requires.2)
 
 pub write_question-count-requires : goal.write_question-count-requires
 write_question-count-requires c =

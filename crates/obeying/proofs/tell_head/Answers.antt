@@ -2,11 +2,7 @@
 use Rattle.commands.specs.Answers.{answer}
 use Rattle.commands.specs.Changing.{changed}
 use Rattle.obeying.specs.Taking.{obeyed}
-use Rattle.table.proofs.TableLaws.{sound_length}
 use Rattle.obeying.proofs.tell_head.Goals as goal
-
-pub read_head-requires : goal.read_head-requires
-read_head-requires c = sound_length _ c.requires.0
 
 pub returns : goal.returns
 unfolding obeyed changed answer

@@ -1,14 +1,8 @@
 -- `table::fresh_records` meets its contract: after c turns the first c records are fresh, and every other byte is as it was.
 -- Assumes nothing.
 use mathlib.Core.Path.{◌≡◌}
-use Prim.Native.Nat.{◌-◌, ◌≤◌}
-use lib.ListN.{length}
-use Rattle.table.specs.Layout.{table_size}
 use Rattle.table.proofs.LoopLaws.{fresh_to}
 use Rattle.table.proofs.fresh_records.Given as goal
 
 abbrev pub invariant-loop-c : goal.invariant-loop-c
-invariant-loop-c l = (l.c ≤ 16) × (length l.t ≡ table_size) × (l.t ≡ fresh_to l.initial.t l.c)
-
-abbrev pub decreases-loop-c : goal.decreases-loop-c
-decreases-loop-c l = 16 - l.c
+invariant-loop-c l = (l.t ≡ fresh_to l.initial.t l.c)

@@ -32,11 +32,11 @@ returns-then-m c =
     let x = c.args.x in
     let held : (motor_at t x).drive.held ≡ true = rw (← c.motor_at-m.ensures) c.if-m.true in
     let after = released (motor_at t x) in
-    let sound : sound_motor (motor_at t x) ≡ true = motor_sound_in t x c.requires.2 in
+    let sound : sound_motor (motor_at t x) ≡ true = motor_sound_in t x c.requires.1 in
     let written : put (record_at t x) 31 (flags_and_drive after.ended after.drive) ≡ record_of after =
-    rw (← read_back t x c.requires.2 (λ j. (c.slice_known-1.given j).fits)) (release_written (motor_at t x) held) in
+    rw (← read_back t x c.requires.1 c.fits-t) (release_written (motor_at t x) held) in
     rw (c.put_drive.ensures, c.release.ensures, c.motor_at-m.ensures, written)
-    (motor_unmarked t x after c.requires.0 c.requires.1 c.requires.3 (released_sound (motor_at t x) sound) (rw (released_drive (motor_at t x))))
+    (motor_unmarked t x after c.told-t c.requires.0 c.requires.2 (released_sound (motor_at t x) sound) (rw (released_drive (motor_at t x))))
 
 pub returns-else-m : goal.returns-else-m
 returns-else-m c =
@@ -44,4 +44,4 @@ returns-else-m c =
     let x = c.args.x in
     let free : (motor_at t x).drive.held ≡ false = rw (← c.motor_at-m.ensures) c.if-m.false in
     rw (released_free (motor_at t x) free)
-    (sym (motor_back t x c.requires.2 (λ j. (c.slice_known-1.given j).fits) c.requires.0 c.requires.1 c.requires.3))
+    (sym (motor_back t x c.requires.1 c.fits-t c.told-t c.requires.0 c.requires.2))

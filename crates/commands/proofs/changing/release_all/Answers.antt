@@ -1,5 +1,4 @@
 -- `commands::changing::release_all` meets its contract. Assumes nothing.
-use borrow.Author.Rules.{rules}
 use native.Mathlib.Omega.{arith}
 use mathlib.Core.Path.{◌≡◌, sym, ◌∙◌}
 use Prim.Native.Nat.{◌≤◌}
@@ -13,7 +12,7 @@ use Rattle.commands.proofs.changing.release_all.Goals as goal
 pub loop-x-init : goal.loop-x-init
 loop-x-init c =
     let t₀ = c.args.t.now in
-    (search rules, sound_length t₀ c.requires, sym (up_to_none _ t₀ ∙ sound_sealed t₀ c.requires (λ j. (c.type_inv.t j).fits)))
+    sym (up_to_none _ t₀ ∙ sound_sealed t₀ c.requires c.fits-t)
 
 pub make_release-requires : goal.make_release-requires
 make_release-requires c =
@@ -21,14 +20,14 @@ make_release-requires c =
     let x = c.loop-x.x in
     let channel : x ≤ 15 = omega arith in
     let whole = sound_length t₀ c.requires in
-    let sound : sound_record (record_at c.loop-x.t x) ≡ true = rw (c.loop-x.invariant.2, up_to_record released x t₀ whole (omega arith)) (sound_record_at t₀ x c.requires channel) in
-    (c.loop-x.invariant.1, channel, sound, rw c.loop-x.invariant.2 (up_to_sealed released x t₀ whole (omega arith)))
+    let sound : sound_record (record_at c.loop-x.t x) ≡ true = rw (c.loop-x.invariant, up_to_record released x t₀ whole (omega arith)) (sound_record_at t₀ x c.requires channel) in
+    (channel, sound, rw c.loop-x.invariant (up_to_sealed released x t₀ whole (omega arith)))
 
 pub loop-x-preserved : goal.loop-x-preserved
 loop-x-preserved c =
     let t₀ = c.args.t.now in
     let whole = sound_length t₀ c.requires in
-    (omega arith, search rules, rw (c.make_release.ensures, c.loop-x.invariant.2) (up_to_next released c.loop-x.x t₀ whole (omega arith)))
+    (rw (c.make_release.ensures, c.loop-x.invariant) (up_to_next released c.loop-x.x t₀ whole (omega arith)))
 
 pub returns : goal.returns
-returns c = let e : c.loop-x.x ≡ 16 = omega arith in rw (c.loop-x.invariant.2, e) (up_to_all _ _ (sound_length _ c.requires))
+returns c = let e : c.loop-x.x ≡ 16 = omega arith in rw (c.loop-x.invariant, e) (up_to_all _ _ (sound_length _ c.requires))

@@ -23,9 +23,9 @@ returns-then-has c =
     let after = ended_with c.args.flags (motor_at t x) in
     let drives : busy (motor_at t x) ≡ true = sym c.requires.listed ∙ (sym c.has.ensures ∙ c.if-has.true) in
     let written : put (record_at t x) 31 (flags_and_drive c.args.flags standing) ≡ record_of after =
-    rw (← read_back t x c.requires.whole.2 (λ j. (c.slice_known-1.given j).fits)) (drive_written (motor_at t x) c.args.flags standing) in
+    rw (← read_back t x c.requires.whole.1 c.fits-t) (drive_written (motor_at t x) c.args.flags standing) in
     rw (c.mark_at.ensures, c.put_drive.ensures, c.end_drive.ensures, drives, written)
-    (marked_sealed t x (record_of after) c.requires.whole.0 c.requires.whole.1 (record_length after) c.requires.whole.3)
+    (marked_sealed t x (record_of after) c.told-t c.requires.whole.0 (record_length after) c.requires.whole.2)
 
 pub returns-else-has : goal.returns-else-has
 returns-else-has c =
@@ -33,4 +33,4 @@ returns-else-has c =
     let x = c.args.x in
     let stands : busy (motor_at t x) ≡ false = sym c.requires.listed ∙ (sym c.has.ensures ∙ c.if-has.false) in
     rw (stopped_again c.args.flags (motor_at t x) stands)
-    (sym (motor_back t x c.requires.whole.2 (λ j. (c.type_inv.t j).fits) c.requires.whole.0 c.requires.whole.1 c.requires.whole.3))
+    (sym (motor_back t x c.requires.whole.1 c.fits-t c.told-t c.requires.whole.0 c.requires.whole.2))

@@ -9,19 +9,19 @@ use Rattle.commands.proofs.judging.judge_channel.Goals as goal
 pub motor_at-requires : goal.motor_at-requires
 unfolding named
 motor_at-requires c =
-    (c.requires.0, rw c.in-Go.is at (named_channel _ c.requires.1))
+    rw c.in-Go.is at (named_channel _ c.requires.0)
 
 pub judge_go-requires : goal.judge_go-requires
 unfolding value_in_range
-judge_go-requires c = rw c.in-Go.is at c.requires.2
+judge_go-requires c = rw c.in-Go.is at c.requires.1
 
 pub motor_at-requires-in-ChangeSpeed : goal.motor_at-requires-in-ChangeSpeed
 unfolding named
-motor_at-requires-in-ChangeSpeed c = (c.requires.0, rw c.in-ChangeSpeed.is at (named_channel _ c.requires.1))
+motor_at-requires-in-ChangeSpeed c = rw c.in-ChangeSpeed.is at (named_channel _ c.requires.0)
 
 pub motor_at-requires-in-Set : goal.motor_at-requires-in-Set
 unfolding named
-motor_at-requires-in-Set c = (c.requires.0, rw c.in-Set.is at (named_channel _ c.requires.1))
+motor_at-requires-in-Set c = rw c.in-Set.is at (named_channel _ c.requires.0)
 
 pub returns-in-Go : goal.returns-in-Go
 unfolding meets_busy judge_motor

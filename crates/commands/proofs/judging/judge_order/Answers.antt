@@ -3,9 +3,6 @@ use mathlib.Core.Path.{sym, ◌∙◌}
 use Rattle.commands.specs.Judging.{judge_where, judge}
 use Rattle.commands.proofs.judging.judge_order.Goals as goal
 
-pub returns-then-not-has_form : goal.returns-then-not-has_form
-returns-then-not-has_form c = rw (← c.read_head-head.ensures, ← c.has_form.ensures, c.if-not-has_form.true)
-
 pub returns-then-needs_remote-head : goal.returns-then-needs_remote-head
 unfolding judge judge_where
 returns-then-needs_remote-head c =
@@ -13,7 +10,7 @@ returns-then-needs_remote-head c =
 
 pub judge_channel-requires : goal.judge_channel-requires
 judge_channel-requires c =
-    (c.requires.0, c.requires.1, sym c.value_in_range.ensures ∙ c.if-value_in_range.true)
+    (c.requires, sym c.value_in_range.ensures ∙ c.if-value_in_range.true)
 
 pub returns-then-value_in_range : goal.returns-then-value_in_range
 unfolding judge judge_where

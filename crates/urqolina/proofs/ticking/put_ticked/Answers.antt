@@ -15,11 +15,11 @@ unfolding with_motor
 returns-then-m-eq0 c =
     let m = c.args.m in
     rw (c.mark_at.ensures, c.put_progress.ensures, c.requires.motor_ticked.0)
-    (marked_sealed c.args.t.now c.args.c (record_of m) c.requires.whole.0 c.requires.whole.1 (record_length m) c.requires.whole.2)
+    (marked_sealed c.args.t.now c.args.c (record_of m) c.told-t c.requires.whole.0 (record_length m) c.requires.whole.1)
 
 pub returns-else-m-eq0 : goal.returns-else-m-eq0
 returns-else-m-eq0 c =
     let m = c.args.m in
     let on : busy m ≡ true = rw (ne_eqb _ _ c.if-m-eq0.false) in
     rw (c.put_progress.ensures, c.requires.motor_ticked.0)
-    (motor_unmarked c.args.t.now c.args.c m c.requires.whole.0 c.requires.whole.1 c.requires.whole.2 c.requires.motor_ticked.1 (on ∙ sym c.requires.whole.3))
+    (motor_unmarked c.args.t.now c.args.c m c.told-t c.requires.whole.0 c.requires.whole.1 c.requires.motor_ticked.1 (on ∙ sym c.requires.whole.2))
