@@ -1,10 +1,9 @@
 -- Where a field stands, the line has not ended yet, so the place after it is within the line; and the last field ends the
 -- fields. Assumes nothing.
-use Rattle.std.specs.Prelude.{Some, None, nat_eq}
+use Rattle.std.specs.Prelude.{Some, None}
 use Prim.Native.Char.{code}
 use mathlib.Core.Path.{◌≡◌, refl, sym, ap, ◌∙◌}
 use mathlib.Core.List.{List, [], ◌∷◌}
-use Rattle.std.specs.Cmp.Lexicographic.{pointwise}
 use mathlib.Core.Bool.{Bool, true, false, ◌&&◌, and-true, and_assoc}
 use Prim.Native.Nat.{ℕ, zero, suc, ◌+◌, ◌-◌, ◌<◌, ◌≤◌}
 use native.Mathlib.Omega.{arith}
@@ -12,7 +11,7 @@ use lib.Dec.{leb, eqb}
 use lib.ListN.{length, take, drop, drop_of_length-le, length-drop, get_or, get_or-eq_default}
 use lib.Seq.{get_or-drop, take_all}
 use native.Mathlib.Nat.{add-zero}
-use borrow.Author.Tests.{leb-true, leb-false, eq-eqb, ne_eqb, eqb-true, eqb-false}
+use borrow.Author.Tests.{leb-true, leb-false, eq-eqb, ne_eqb}
 use Rattle.text.specs.Text.{same, is_digit, is_hex, digits_at_front, number_at_front}
 use Rattle.text.specs.declared.decimal.Digits.{Digits}
 use Rattle.text.proofs.TextLaws.{between, digits_within, number_found}
@@ -59,25 +58,49 @@ last_field None = refl
 pub rest_whole : (s : List ℕ) (at : ℕ) → take (length s - at) (drop at s) ≡ drop at s
 rest_whole s at = take_all (length s - at) (drop at s) (omega (arith, length-drop at s))
 
--- A text of a letter at least does not stand past the end, and where it stands is as the library compares.
-pub text_past : (s t : List ℕ) (at : ℕ) → length s < at → 1 ≤ length t → same (take (length t) (drop at s)) t ≡ false
+-- A text of a letter at least does not stand past the end; nor does it where a byte of it is missing or another; and else it stands.
+pub text_past : (s t : List ℕ) (at : ℕ) → length s ≤ at → 1 ≤ length t → same (take (length t) (drop at s)) t ≡ false
 unfolding same
 text_past s [] at p q = absurd (omega arith)
-text_past s (b ∷ t) at p q = rw (drop_of_length-le s {i = at} (omega arith))
+text_past s (b ∷ t) at p q = rw (drop_of_length-le s {i = at} p)
 
-pub eqb_flip : (a b : ℕ) → eqb a b ≡ eqb b a
-eqb_flip a b = go (eqb a b) refl
-  where
-    go : (t : Bool) → eqb a b ≡ t → t ≡ eqb b a
-    go true e = sym (eq-eqb b a (sym (eqb-true a b e)))
-    go false e = sym (ne_eqb b a (λ i. eqb-false a b e (sym i)))
-
-pub text_same : (t s : List ℕ) → pointwise nat_eq t s ≡ same s t
+text_short : (t s : List ℕ) → length s < length t → same (take (length t) s) t ≡ false
 unfolding same
-text_same [] [] = refl
-text_same [] (b ∷ s) = refl
-text_same (a ∷ t) [] = refl
-text_same (a ∷ t) (b ∷ s) = rw (eqb_flip a b, text_same t s)
+text_short [] s h = absurd (omega arith)
+text_short (b ∷ t) [] h = refl
+text_short (b ∷ t) (a ∷ s) h = go (eqb a b) (text_short t s (omega arith))
+  where
+    go : (e : Bool) → same (take (length t) s) t ≡ false → (e && same (take (length t) s) t) ≡ false
+    go true h = h
+    go false h = refl
+
+text_other : (t s : List ℕ) (k : ℕ) → k < length t → k < length s → (get_or s k 0 ≡ get_or t k 0 → ⊥) → same (take (length t) s) t ≡ false
+unfolding same
+text_other [] s k h l d = absurd (omega arith)
+text_other (b ∷ t) [] k h l d = refl
+text_other (b ∷ t) (a ∷ s) zero h l d = rw (ne_eqb a b d)
+text_other (b ∷ t) (a ∷ s) (suc k) h l d = go (eqb a b) (text_other t s k (omega arith) (omega arith) d)
+  where
+    go : (e : Bool) → same (take (length t) s) t ≡ false → (e && same (take (length t) s) t) ≡ false
+    go true h = h
+    go false h = refl
+
+text_alike : (t s : List ℕ) → length t ≤ length s → ((k : ℕ) → k < length t → get_or s k 0 ≡ get_or t k 0) → same (take (length t) s) t ≡ true
+unfolding same
+text_alike [] s h d = refl
+text_alike (b ∷ t) [] h d = absurd (omega arith)
+text_alike (b ∷ t) (a ∷ s) h d = rw (eq-eqb a b (d zero (omega arith))) (text_alike t s (omega arith) (λ k l. d (suc k) (omega arith)))
+
+pub text_missing : (s t : List ℕ) (at k : ℕ) → k < length t → length s ≤ at + k → same (take (length t) (drop at s)) t ≡ false
+text_missing s t at k h l = text_short t (drop at s) (omega (arith, length-drop at s))
+
+pub text_differs : (s t : List ℕ) (at k : ℕ) → k < length t → at + k < length s → (get_or s (at + k) 0 ≡ get_or t k 0 → ⊥)
+    → same (take (length t) (drop at s)) t ≡ false
+text_differs s t at k h l d = text_other t (drop at s) k h (omega (arith, length-drop at s)) (λ e. d (sym (get_or-drop at s k 0) ∙ e))
+
+pub text_stands : (s t : List ℕ) (at : ℕ) → at + length t ≤ length s → ((k : ℕ) → k < length t → get_or s (at + k) 0 ≡ get_or t k 0)
+    → same (take (length t) (drop at s)) t ≡ true
+text_stands s t at h d = text_alike t (drop at s) (omega (arith, length-drop at s)) (λ k l. get_or-drop at s k 0 ∙ d k l)
 
 -- A text of one, two or three letters stands where each of them does.
 above_none : (a : ℕ) → 0 < a → eqb 0 a ≡ false

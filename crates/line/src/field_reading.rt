@@ -85,16 +85,24 @@ fn digit_at(s: &[u8], at: usize, f: Fields) -> Got
     }
 }
 
-// A text of letters, as EN, or the ? of STSx?.
+// A text of letters, as EN, or the ? of STSx?. It is compared byte by byte: the part of the line from its place on would be made ready
+// for every line, whatever field it has.
 fn text_at(s: &[u8], at: usize, text: &[u8], f: Fields) -> Got
     requires { 1 ≤ length text.now }
     ensures { result ≡ got_if (same (take (length text.now) (drop at s.now)) text.now) f (at + length text.now) }
 {
-    if at <= s.len() && s[at..].starts_with(text) {
-        Some((f, at + text.len()))
-    } else {
-        None
+    if s.len() <= at {
+        return None;
     }
+    for (k, b) in text.iter().enumerate() {
+        if s.len() <= at + k {
+            return None;
+        }
+        if s[at + k] != *b {
+            return None;
+        }
+    }
+    Some((f, at + text.len()))
 }
 
 // The four digits from a place on, which the caller has counted.

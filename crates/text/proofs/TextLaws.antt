@@ -1,7 +1,7 @@
 -- Numbers in digits: what reading and writing them a byte at a time comes to, how long they are, and that a number that is
 -- written is read back. Assumes nothing.
 use Prim.Native.Char.{code}
-use mathlib.Core.Path.{◌≡◌, refl}
+use mathlib.Core.Path.{◌≡◌, refl, ap, ◌∙◌}
 use mathlib.Core.List.{List, [], ◌∷◌, ◌++◌}
 use mathlib.Core.Bool.{Bool, true, false, ◌&&◌, cond}
 use Prim.Native.Nat.{ℕ, zero, suc, ◌+◌, ◌*◌, ◌-◌, ◌/◌, ◌%◌, ◌^◌, ◌<◌, ◌≤◌, max}
@@ -10,22 +10,29 @@ use native.Mathlib.Nat.{add-zero, add-suc, zero-add, suc-add, pow-le-pow_right, 
 use native.Mathlib.Numerals.{add-one, one-add}
 use native.Mathlib.Omega.{arith}
 use lib.Dec.{leb}
-use lib.ListN.{length, take, get_or, set, length-append}
-use lib.Seq.{take-suc, take_at}
+use lib.ListN.{length, take, drop, get_or, set, length-append, length-drop, drop_of_length-le}
+use lib.Seq.{drop-cons, get_or-drop, take-suc, take_at}
 use borrow.Author.Tests.{leb-true, leb-false, le-leb, lt-leb}
 use Rattle.digits.specs.Bytes.{put}
-use Rattle.std.specs.Prelude.{Some, None}
-use Rattle.std.specs.List.{prefix_len}
+use Rattle.std.specs.Prelude.{Option, Some, None}
 use Rattle.text.specs.declared.decimal.Digits.{Digits}
 use Rattle.text.specs.Text.{is_digit, digit_value, digit_byte, digits_at_front, value_from, value_of, number_at_front}
 use Rattle.text.specs.Text.{last_digits, powers_up_to, digit_count, decimal, distance, signed_decimal}
 use Rattle.digits.proofs.PutLaws.{put_more}
 
--- The digits at the front are as many as pass the test from there on.
-pub digits_passing : (s : List ℕ) → prefix_len is_digit s ≡ digits_at_front s
+-- Reading, a byte at a time: a digit counts one more; any other byte, and the end, ends the count.
+pub digits_more : (s : List ℕ) (i : ℕ) → i < length s → is_digit (get_or s i 0) ≡ true
+    → digits_at_front (drop i s) ≡ 1 + digits_at_front (drop (i + 1) s)
 unfolding digits_at_front
-digits_passing [] = refl
-digits_passing (b ∷ s) = rw (digits_passing s, one-add)
+digits_more s i h d = rw (add-one i, drop-cons s i 0 h, d) (omega arith)
+
+pub digits_none : (s : List ℕ) (i : ℕ) → i < length s → is_digit (get_or s i 0) ≡ false → digits_at_front (drop i s) ≡ 0
+unfolding digits_at_front
+digits_none s i h d = rw (drop-cons s i 0 h, d)
+
+pub digits_past : (s : List ℕ) (i : ℕ) → length s ≤ i → digits_at_front (drop i s) ≡ 0
+unfolding digits_at_front
+digits_past s i h = rw (drop_of_length-le s h)
 
 -- The digits at the front of a text are within it.
 pub digits_within : (s : List ℕ) → digits_at_front s ≤ length s
@@ -54,6 +61,50 @@ value_append (a ∷ t) v b = value_append t (10 * v + digit_value a) b
 
 pub value_take : (t : List ℕ) (n : ℕ) → n < length t → value_of (take (suc n) t) ≡ 10 * value_of (take n t) + digit_value (get_or t n 0)
 value_take t n h = rw (take-suc t n 0 h) (value_append (take n t) 0 (get_or t n 0))
+
+-- what the digits from a place up to another are worth, and that they are no more than they are
+abbrev pub Worth : List ℕ → ℕ → ℕ → ℕ → Type 0
+Worth s at i v = (v < 10 ^ (i - at)) × (v ≡ value_of (take (i - at) (drop at s)))
+
+-- A digit joins the number.
+pub worth_more : (s : List ℕ) (at i v : ℕ) → at ≤ i → i < length s → is_digit (get_or s i 0) ≡ true → Worth s at i v
+    → Worth s at (i + 1) (10 * v + digit_value (get_or s i 0))
+worth_more s at i v a l d w =
+    let n = i - at in
+    let e : i + 1 - at ≡ suc n = omega arith in
+    let p : at + n ≡ i = omega arith in
+    let b = between (code "0") (code "9") (get_or s i 0) d in
+    let q : get_or (drop at s) n 0 ≡ get_or s i 0 = get_or-drop at s n 0 ∙ ap (λ (k : ℕ). get_or s k 0) p in
+    let t : n < length (drop at s) = omega (arith, length-drop at s) in
+    rw e (
+      rw (pow-suc 10 n) (omega (arith, w.0, b.0, b.1)),
+      rw (value_take (drop at s) n t, q, ← w.1),
+    )
+
+-- The number by all the digits that stand, where they are ten at most.
+pub number_counted : (s : List ℕ) (v n : ℕ) → n ≡ digits_at_front s → n ≤ 10 → v ≡ value_of (take n s)
+    → cond (leb 1 n) (Some (record { value = v; count = n })) None ≡ number_at_front s
+unfolding number_at_front
+number_counted s v n e h w = rw (w, ← e, le-leb n 10 h) (go (leb 1 n))
+  where
+    d : Digits
+    d = record { value = value_of (take n s); count = n }
+
+    go : (t : Bool) → ◌≡◌ {A = Option Digits} (cond t (Some d) None) (cond (t && true) (Some d) None)
+    go true = refl
+    go false = refl
+
+-- Eleven digits and more are no number.
+pub number_long : (s : List ℕ) → 10 < digits_at_front s → None ≡ number_at_front s
+unfolding number_at_front
+number_long s h = rw (lt-leb (digits_at_front s) 10 h) (go (leb 1 (digits_at_front s)))
+  where
+    d : Digits
+    d = record { value = value_of (take (digits_at_front s) s); count = digits_at_front s }
+
+    go : (t : Bool) → ◌≡◌ {A = Option Digits} None (cond (t && false) (Some d) None)
+    go true = refl
+    go false = refl
 
 -- What digits write is below the power of ten that has one more digit.
 value_below : (s : List ℕ) (v : ℕ) → value_from v (take (digits_at_front s) s) < (v + 1) * 10 ^ digits_at_front s

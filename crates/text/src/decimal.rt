@@ -1,6 +1,6 @@
 // Numbers in decimal: read off a text, and written into the part of a buffer that the caller lends.
 
-ghost use Rattle.std.specs.Prelude.{◌≡◌, ◌%◌, ◌≤◌, length, drop};
+ghost use Rattle.std.specs.Prelude.{◌≡◌, ◌%◌, ◌≤◌, length, drop, cond, leb, Some, None};
 ghost use Rattle.digits.specs.Bytes.{put};
 ghost use Rattle.text.specs.Text.{is_digit, digit_value, digit_byte, digits_at_front, value_of, number_at_front};
 ghost use Rattle.text.specs.Text.{last_digits, digit_count, decimal, sign_byte, distance, signed_decimal, Wrote};
@@ -33,46 +33,45 @@ fn digit_byte(n: u32) -> u8
     b'0' + (n % 10) as u8
 }
 
-// How many digits stand at the front.
-fn digits_in(s: &[u8]) -> usize
-    ensures { result ≡ digits_at_front s.now }
-{
-    s.iter().take_while(|b| is_digit(**b)).count()
-}
-
 // How many digits stand from `at` on; none where `at` lies past the end.
 pub fn digits_at(s: &[u8], at: usize) -> usize
     ensures { result ≡ digits_at_front (drop at s.now) }
 {
-    match s.get(at..) {
-        Some(rest) => digits_in(rest),
-        None => 0,
+    for i in at..s.len() {
+        if !is_digit(s[i]) {
+            return i - at;
+        }
     }
+    s.len().saturating_sub(at)
 }
 
-// What bytes are worth as digits: ten at most, so that it fits.
-fn value_of(s: &[u8]) -> u64
-    requires { length s.now ≤ 10 }
-    ensures { result ≡ value_of s.now }
+// A number by its digits, if there are any.
+fn number_of(value: u64, count: usize) -> Option<Digits>
+    ensures { result ≡ cond (leb 1 count) (Some (record { value = value; count = count })) None }
 {
-    let mut value: u64 = 0;
-    for b in s {
-        value = 10 * value + digit_value(*b);
+    if 1 <= count {
+        Some(Digits { value, count })
+    } else {
+        None
     }
-    value
 }
 
 // The number that stands from `at` on: all its digits are taken, and eleven are no number.
 pub fn number_at(s: &[u8], at: usize) -> Option<Digits>
     ensures { result ≡ number_at_front (drop at s.now) }
 {
-    let count = digits_at(s, at);
-    if (1 <= count) & (count <= 10) {
-        let value = value_of(&s[at..at + count]);
-        Some(Digits { value, count })
-    } else {
-        None
+    let mut value: u64 = 0;
+    for i in at..s.len() {
+        let b = s[i];
+        if !is_digit(b) {
+            return number_of(value, i - at);
+        }
+        if i - at == 10 {
+            return None;
+        }
+        value = 10 * value + digit_value(b);
     }
+    number_of(value, s.len().saturating_sub(at))
 }
 
 // The first of 10, 100, .. that is above n says how many digits n has.

@@ -1,22 +1,19 @@
 -- `line::field_reading::text_at` meets its contract. Assumes nothing.
-use Rattle.std.proofs.Common.{◌≡◌, length, take, drop, ◌∙◌}
-use Rattle.text.specs.Text.{same}
-use Rattle.line.proofs.ReadLaws.{rest_whole, text_past, text_same}
-use Rattle.line.proofs.field_reading.text_at.Goals.{else-at-s-via-then-at-s+else-starts_with, else-at-s-via-else-at-s}
+use Rattle.std.proofs.Common.{arith, ◌≡◌, length}
+use Rattle.line.proofs.ReadLaws.{text_past, text_missing, text_differs, text_stands}
 use Rattle.line.proofs.field_reading.text_at.Goals as goal
 
-pub returns-then-starts_with : goal.returns-then-starts_with
-returns-then-starts_with c =
-    let a = c.args in
-    let told : c.starts_with.result ≡ same (take (length a.text.now) (drop a.at a.s.now)) a.text.now = c.starts_with.ensures.value ∙ text_same a.text.now _ ∙ rw (rest_whole a.s.now a.at) in
-    rw (← told, c.if-starts_with.true)
+pub returns-then-s-at : goal.returns-then-s-at
+returns-then-s-at c = rw (text_past c.args.s.now c.args.text.now c.args.at c.if-s-at.true c.requires)
 
-pub returns-else-at-s : goal.returns-else-at-s
-returns-else-at-s c =
-    let a = c.args in
-    elim c.else-at-s.branch [
-      | else-at-s-via-then-at-s+else-starts_with w ↦
-          let told : w.starts_with.result ≡ same (take (length a.text.now) (drop a.at a.s.now)) a.text.now = w.starts_with.ensures.value ∙ text_same a.text.now _ ∙ rw (rest_whole a.s.now a.at) in
-          rw (← told, w.if-starts_with.false)
-      | else-at-s-via-else-at-s w ↦ rw (text_past a.s.now a.text.now a.at w.if-at-s.false c.requires)
-    ]
+pub returns-then-s-at-2 : goal.returns-then-s-at-2
+returns-then-s-at-2 c = rw (text_missing c.args.s.now c.args.text.now c.args.at c.loop-k.k c.loop-k-test.true c.if-s-at-2.true)
+
+pub returns-then-s-at-3 : goal.returns-then-s-at-3
+returns-then-s-at-3 c = rw (text_differs c.args.s.now c.args.text.now c.args.at c.loop-k.k c.loop-k-test.true (omega arith) c.if-s-at-3.true)
+
+pub returns : goal.returns
+returns c =
+    let l = c.loop-k in
+    let all : l.k ≡ length c.args.text.now = omega arith in
+    rw (text_stands c.args.s.now c.args.text.now c.args.at (rw all at l.invariant.0) (rw all at l.invariant.1))

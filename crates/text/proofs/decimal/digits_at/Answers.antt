@@ -1,11 +1,18 @@
--- `text::decimal::digits_at` meets its contract: past the end nothing is left. Assumes nothing.
-use Rattle.std.proofs.Common.{arith, ◌<◌, length, rules}
-use lib.ListN.{drop_of_length-le}
-use Rattle.text.specs.Text.{digits_at_front}
+-- `text::decimal::digits_at` meets its contract. Assumes nothing.
+use Rattle.std.proofs.Common.{arith, sym, ◌∙◌}
+use Rattle.text.proofs.TextLaws.{digits_more, digits_none, digits_past}
 use Rattle.text.proofs.decimal.digits_at.Goals as goal
 
-pub returns-in-None : goal.returns-in-None
-unfolding digits_at_front
-returns-in-None c =
-    let past : length c.args.s.now < c.args.at = search rules in
-    rw (drop_of_length-le c.args.s.now {i = c.args.at} (omega (arith, past)))
+pub loop-i-init : goal.loop-i-init
+loop-i-init c = (omega arith, omega arith)
+
+pub loop-i-preserved : goal.loop-i-preserved
+loop-i-preserved c =
+    (omega (arith, digits_more c.args.s.now c.loop-i.i (omega arith) (sym c.is_digit.ensures ∙ c.if-not-is_digit.false)), omega arith)
+
+pub returns-then-not-is_digit : goal.returns-then-not-is_digit
+returns-then-not-is_digit c =
+    omega (arith, digits_none c.args.s.now c.loop-i.i (omega arith) (sym c.is_digit.ensures ∙ c.if-not-is_digit.true))
+
+pub returns : goal.returns
+returns c = omega (arith, digits_past c.args.s.now c.loop-i.i (omega arith))

@@ -1,27 +1,52 @@
--- `text::decimal::number_at` meets its contract: the digits that are counted stand in the text. Assumes nothing.
-use Rattle.std.proofs.Common.{arith, ◌≡◌, ◌+◌, ◌-◌, ◌≤◌, length, drop, List, ℕ}
-use lib.ListN.{length-drop}
-use Rattle.text.specs.Text.{digits_at_front, number_at_front}
-use Rattle.text.proofs.TextLaws.{between, digits_within}
+-- `text::decimal::number_at` meets its contract. Assumes nothing.
+use Rattle.std.proofs.Common.{arith, ◌≡◌, ◌-◌, drop, refl, sym, ◌∙◌, true}
+use native.Mathlib.Nat.{pow-le-pow_right}
+use lib.ListN.{get_or}
+use Rattle.text.specs.Text.{is_digit, value_from}
+use Rattle.text.proofs.TextLaws.{digits_more, digits_none, digits_past, worth_more, number_counted, number_long}
 use Rattle.text.proofs.decimal.number_at.Goals as goal
 
--- as many as are counted are left, so they stand before the end
-end_within : (s : List ℕ) (at n : ℕ) → n ≡ digits_at_front (drop at s) → 1 ≤ n → at + n ≤ length s
-end_within s at n e h = omega (arith, digits_within (drop at s), length-drop at s)
+pub loop-i-init : goal.loop-i-init
+unfolding value_from
+loop-i-init c =
+    let at = c.args.at in
+    let z : at - at ≡ 0 = omega arith in
+    (omega arith, omega arith, omega arith, rw z (omega arith, refl))
 
-pub slice_bounds-value_of-end : goal.slice_bounds-value_of-end
-slice_bounds-value_of-end c = end_within c.args.s.now c.args.at c.digits_at-count.result c.digits_at-count.ensures (between 1 10 _ c.if-count.true).0
+pub returns-then-not-is_digit : goal.returns-then-not-is_digit
+returns-then-not-is_digit c =
+    let l = c.loop-i in
+    let s = c.args.s.now in
+    let none = digits_none s l.i (omega arith) (sym c.is_digit.ensures ∙ c.if-not-is_digit.true) in
+    c.number_of.ensures ∙ number_counted (drop c.args.at s) l.value (l.i - c.args.at) (omega (arith, none)) l.invariant.1 l.invariant.3.1
 
-pub overflow_add-at : goal.overflow_add-at
-overflow_add-at c = omega (arith, end_within c.args.s.now c.args.at c.digits_at-count.result c.digits_at-count.ensures (between 1 10 _ c.if-count.true).0)
+pub returns-then-i-at-eq10 : goal.returns-then-i-at-eq10
+returns-then-i-at-eq10 c =
+    let l = c.loop-i in
+    let s = c.args.s.now in
+    number_long (drop c.args.at s) (omega (arith, digits_more s l.i (omega arith) (sym c.is_digit.ensures ∙ c.if-not-is_digit.false)))
 
-pub returns-then-count : goal.returns-then-count
-unfolding number_at_front
-returns-then-count c =
-    let n = c.digits_at-count in
-    let e : c.args.at + n.result - c.args.at ≡ n.result = omega arith in
-    rw (c.value_of-value.ensures, e, ← n.ensures, c.if-count.true)
+pub overflow_mul-value : goal.overflow_mul-value
+overflow_mul-value c =
+    let l = c.loop-i in
+    omega (arith, l.invariant.3.0, pow-le-pow_right {n = 10} (omega arith) {i = l.i - c.args.at} {j = 9} (omega arith))
 
-pub returns-else-count : goal.returns-else-count
-unfolding number_at_front
-returns-else-count c = rw (← c.digits_at-count.ensures, c.if-count.false)
+pub overflow_add-value : goal.overflow_add-value
+overflow_add-value c =
+    let l = c.loop-i in
+    omega (arith, l.invariant.3.0, pow-le-pow_right {n = 10} (omega arith) {i = l.i - c.args.at} {j = 9} (omega arith))
+
+pub loop-i-preserved : goal.loop-i-preserved
+loop-i-preserved c =
+    let l = c.loop-i in
+    let s = c.args.s.now in
+    let d : is_digit (get_or s l.i 0) ≡ true = sym c.is_digit.ensures ∙ c.if-not-is_digit.false in
+    (omega (arith, digits_more s l.i (omega arith) d), omega arith, omega arith, rw c.digit_value.ensures (worth_more s c.args.at l.i l.value (omega arith) (omega arith) d l.invariant.3))
+
+pub returns : goal.returns
+returns c =
+    let l = c.loop-i in
+    let s = c.args.s.now in
+    let all : c.saturating_sub.result ≡ l.i - c.args.at = omega (arith, c.saturating_sub.ensures) in
+    let none = digits_past s l.i (omega arith) in
+    rw (c.number_of-2.ensures, all) (number_counted (drop c.args.at s) l.value (l.i - c.args.at) (omega (arith, none)) l.invariant.1 l.invariant.3.1)
