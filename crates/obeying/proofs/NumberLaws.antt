@@ -1,19 +1,20 @@
 -- The numbers that a line can be answered with: what judges an order gives 0, or the number of a refusal. Assumes nothing.
 use Rattle.std.specs.Prelude.{Result, Ok, Err}
 use Rattle.std.specs.Prelude.{Option, Some, None}
-use mathlib.Core.Path.{◌≡◌, refl, sym}
+use mathlib.Core.Path.{◌≡◌, refl, sym, ap}
 use mathlib.Core.List.{List}
 use mathlib.Core.Bool.{Bool, true, false, ◌&&◌, ◌||◌, not, cond, false≢true}
 use Prim.Native.Nat.{ℕ, ◌%◌}
 use native.Mathlib.Omega.{arith}
 use lib.Dec.{eqb}
-use borrow.Author.Tests.{eq-eqb}
+use borrow.Author.Tests.{eq-eqb, ne_eqb}
 use Rattle.record.specs.declared.Motor.{Motor}
 use Rattle.motor.specs.Switches.{unread, blocked, room}
 use Rattle.motor.specs.Sound.{busy}
 use Rattle.drive.specs.declared.Course.{Course}
 use Rattle.drive.specs.declared.Course.TheVariants.{Stay, Beyond, To, Along}
 use Rattle.drive.specs.Numbers.{Verdict}
+use Rattle.drive.specs.declared.Refusal.{Refusal}
 use Rattle.drive.specs.declared.Refusal.TheVariants.{NoForm, Busy, OutOfRange, LocalMode, Disabled, Unread, SwitchAhead, AtLimit, AtRangeEnd, NotDriving, Full}
 use Rattle.drive.specs.Numbers.{number_of, is_refusal}
 use Rattle.drive.proofs.NumberLaws.{numbered}
@@ -44,6 +45,14 @@ judged_value t o e = local (needs_remote o && eqb (head_of t).mode 0) e
 -- what may come of judging a line: it is done, or refused
 abbrev pub judged : Verdict → Bool
 judged v = eqb (number_of v) 0 || is_refusal (number_of v)
+
+-- A cause has a number of its own.
+pub cause_numbered : (r : Refusal) → eqb (number_of (Err r)) 0 ≡ false
+cause_numbered r = ne_eqb (number_of (Err r)) 0 (λ e. false≢true (ap done ((numbered (Err r)).done e)))
+  where
+    done : Verdict → Bool
+    done (Ok u) = true
+    done (Err r) = false
 
 -- One of two verdicts passes a test that both pass.
 pub either : (test : Verdict → Bool) (b : Bool) (v w : Verdict) → test v ≡ true → test w ≡ true → test (cond b v w) ≡ true

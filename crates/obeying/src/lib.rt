@@ -3,7 +3,7 @@
 
 #![tactic(auto)]
 
-ghost use Rattle.std.specs.Prelude.{◌≡◌, true, ◌+◌, ◌*◌, ◌≤◌, length, Some, Ok};
+ghost use Rattle.std.specs.Prelude.{◌≡◌, true, ◌+◌, ◌*◌, ◌≤◌, length, Some, Ok, Err};
 ghost use Rattle.drive.specs.Numbers.{number_of};
 ghost use Rattle.line.specs.declared.Order.TheVariants.{Ask, AskHead};
 ghost use Rattle.line.specs.Forms.{on_card};
@@ -18,8 +18,8 @@ ghost use Rattle.obeying.specs.Taking.{replied, refused, obeyed, taken};
 use commands::changing::change;
 use commands::flags::set_flag;
 use commands::judging::judge_order;
-use drive::{Refusal, Verdict};
 use drive::numbers::number_of;
+use drive::{Refusal, Verdict};
 use line::{HeadQuestion, Order, Question};
 use replies::{write_echo, write_head_question, write_question};
 use table::head::read_head;
@@ -34,10 +34,11 @@ fn result_of(v: Verdict, count: usize) -> u32
 }
 
 // Refuses a line: its flag is set, and its text written if all-reply is on.
-fn refuse(t: &mut Table, v: Verdict, reply: &mut [u8]) -> u32
+fn refuse(t: &mut Table, cause: Refusal, reply: &mut [u8]) -> u32
     requires { (sound_table t.old ≡ true) × (32 ≤ length reply.old) }
-    ensures { record { result = result; table = t.new; reply = reply.new } ≡ refused t.old v reply.old }
+    ensures { record { result = result; table = t.new; reply = reply.new } ≡ refused t.old (Err cause) reply.old }
 {
+    let v = Err(cause);
     set_flag(t, v);
     let h = read_head(t);
     let count = write_echo(reply, h.reply, v);
@@ -93,7 +94,7 @@ fn take_order(t: &mut Table, o: Order, reply: &mut [u8]) -> u32
 {
     match judge_order(t, o) {
         Ok(()) => obey(t, o, reply),
-        refused => refuse(t, refused, reply),
+        Err(cause) => refuse(t, cause, reply),
     }
 }
 
@@ -104,6 +105,6 @@ pub fn take_line(t: &mut Table, p: Option<Order>, reply: &mut [u8]) -> u32
 {
     match p {
         Some(o) => take_order(t, o, reply),
-        None => refuse(t, Err(Refusal::NoForm), reply),
+        None => refuse(t, Refusal::NoForm, reply),
     }
 }
