@@ -40,7 +40,7 @@ pub fn motor_at(t: &[u8], c: u8) -> Motor
 {
     let start = record_start(c);
     let end = start + 64;
-    read_motor(&t[start..end])
+    read_motor(t[start..end].as_array().unwrap())
 }
 
 // Whether a channel has no drive, moving or held.
@@ -50,7 +50,7 @@ pub fn is_standing_at(t: &[u8], c: u8) -> bool
 {
     let start = record_start(c);
     let end = start + 64;
-    is_standing(&t[start..end])
+    is_standing(t[start..end].as_array().unwrap())
 }
 
 // Whether the motor of a channel with a sound record moves.
@@ -60,7 +60,7 @@ pub fn is_moving_at(t: &[u8], c: u8) -> bool
 {
     let start = record_start(c);
     let end = start + 64;
-    is_going(&t[start..end])
+    is_going(t[start..end].as_array().unwrap())
 }
 
 // Writes a channel's record anew; every other byte stays as it is.

@@ -8,4 +8,5 @@ use Rattle.table.proofs.is_moving_at.Goals as goal
 pub returns : goal.returns
 unfolding motor_at part
 returns c =
-    rw (c.is_going.ensures, c.record_start-start.ensures, add-sub_cancel_left) (record_moves (record_at c.args.t.now c.args.c) c.requires.2)
+    let lent = (rw c.unwrap.ensures at c.as_array.ensures.cases).same in
+    rw (c.is_going.ensures, lent, c.record_start-start.ensures, add-sub_cancel_left) (record_moves (record_at c.args.t.now c.args.c) c.requires.2)

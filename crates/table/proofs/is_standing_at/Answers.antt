@@ -6,4 +6,6 @@ use Rattle.table.proofs.is_standing_at.Goals as goal
 
 pub returns : goal.returns
 unfolding motor_at part
-returns c = rw (c.is_standing.ensures, c.record_start-start.ensures, add-sub_cancel_left)
+returns c =
+    let lent = (rw c.unwrap.ensures at c.as_array.ensures.cases).same in
+    rw (c.is_standing.ensures, lent, c.record_start-start.ensures, add-sub_cancel_left)

@@ -6,4 +6,6 @@ use Rattle.table.proofs.motor_at.Goals as goal
 
 pub returns : goal.returns
 unfolding motor_at part
-returns c = rw (c.read_motor.ensures, c.record_start-start.ensures, add-sub_cancel_left)
+returns c =
+    let lent = (rw c.unwrap.ensures at c.as_array.ensures.cases).same in
+    rw (c.read_motor.ensures, lent, c.record_start-start.ensures, add-sub_cancel_left)
