@@ -46,10 +46,7 @@ fn record(t: &Table, c: u8) -> &[u8; 64]
 {
     let start = record_start(c);
     let end = start + 64;
-    let Some(b) = t[start..end].as_array() else {
-        unreachable!()
-    };
-    b
+    t[start..end].as_array().unwrap()
 }
 
 // Lends the bytes of a record to what changes them.
