@@ -1,10 +1,8 @@
 -- What is written byte by byte, or into a part that was lent, as one `put` into the whole buffer.
 -- Assumes nothing.
-use Rattle.std.proofs.Common.{◌≡◌, ℕ, suc, ◌+◌, ◌-◌, ◌*◌, ◌<◌, ◌≤◌, List, [], ◌∷◌, ◌++◌, length, get_or, take, drop, set, replicate, sym, ◌∙◌, append_assoc, append-nil, add-zero, add_assoc, add-suc, suc-add, zero-add, add-one, one-add, arith, length-append, length-drop, take-append-drop, length-take, take-suc, take-take, drop-drop, take_at, take-add, drop_at}
-use lib.ListN.{length-replicate, replicate-append-replicate}
+use Rattle.std.proofs.Common.{◌≡◌, ℕ, suc, ◌+◌, ◌-◌, ◌<◌, ◌≤◌, List, [], ◌∷◌, ◌++◌, length, get_or, take, drop, set, sym, ◌∙◌, append_assoc, append-nil, add-zero, add_assoc, add-suc, suc-add, zero-add, add-one, one-add, arith, length-append, length-drop, take-append-drop, length-take, take-suc, take-take, drop-drop, take_at, take-add, drop_at}
 use lib.Seq.{drop-length, sets, sets-eq, set_at, take-append-le, drop-append-le}
 use Rattle.digits.specs.Bytes.{put, joined}
-use Rattle.digits.specs.Words.{word_bytes}
 
 -- nothing is put
 pub put_none : (t : List ℕ) (i : ℕ) → put t i [] ≡ t
@@ -51,6 +49,11 @@ put_part t b a k i h l =
 pub put_rest : (t b : List ℕ) (a : ℕ) → a + length b ≤ length t
     → take a t ++ (put (take (length t - a) (drop a t)) 0 b ++ drop (length t - a) (drop a t)) ≡ put t a b
 put_rest t b a h = rw (put_part t b a (length t - a) 0 (omega arith) (omega arith), add-zero)
+
+-- what is written over the k bytes that were lent from `at` on
+pub put_lent : (s b : List ℕ) (at k : ℕ) → length b ≡ k → take at s ++ (b ++ drop (at + k - at) (drop at s)) ≡ put s at b
+unfolding put
+put_lent s b at k e = let n : at + k - at ≡ length b = omega arith in rw (n, drop-drop)
 
 -- A run of stores, one byte after the other, is what is written at once.
 pub stores_put : (b s : List ℕ) (at : ℕ) → at + length b ≤ length s → sets s at b ≡ put s at b
@@ -110,20 +113,3 @@ put_apart t x y a m l =
 
 pub put_swap : (t x y : List ℕ) (a b : ℕ) → a + length x ≤ b → b + length y ≤ length t → put (put t a x) b y ≡ put (put t b y) a x
 put_swap t x y a b h l = let at : b ≡ a + length x + (b - (a + length x)) = omega arith in rw at (put_apart t x y a (b - (a + length x)) (omega arith))
-
--- the first k words of four bytes zeroed
-unfoldable pub zeroed_to : List ℕ → ℕ → List ℕ
-zeroed_to s k = put s 0 (replicate (4 * k) 0)
-
-pub zeroed_none : (s : List ℕ) → zeroed_to s 0 ≡ s
-unfolding zeroed_to
-zeroed_none s = put_none s 0
-
-pub zeroed_next : (s : List ℕ) (k : ℕ) → 4 * (k + 1) ≤ length s → put (zeroed_to s k) (4 * k) (word_bytes 4 0) ≡ zeroed_to s (k + 1)
-unfolding zeroed_to word_bytes
-zeroed_next s k h =
-    let x : List ℕ = replicate (4 * k) 0 in
-    let n : length x ≡ 4 * k = length-replicate (4 * k) 0 in
-    let more : 4 * (k + 1) ≡ 4 * k + 4 = omega arith in
-    let step : put (put s 0 x) (0 + length x) (word_bytes 4 0) ≡ put s 0 (x ++ word_bytes 4 0) = put_after s x (word_bytes 4 0) 0 (omega arith) in
-    rw (more, ← replicate-append-replicate {A = ℕ} (4 * k) 4 0) (rw (zero-add, n) at step)

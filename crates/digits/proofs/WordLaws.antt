@@ -1,5 +1,9 @@
 -- Laws of words, over the width. Assumes nothing.
-use Rattle.std.proofs.Common.{◌≡◌, ℕ, zero, suc, ◌+◌, ◌*◌, ◌/◌, ◌%◌, ◌^◌, ◌<◌, ◌≤◌, Bool, true, false, ◌&&◌, eqb, List, [], ◌∷◌, ◌++◌, length, sym, refl, ap, div-lt_iff_lt-mul, pow-suc, suc-ne-zero, mul_right_comm, arith, eq-eqb, ne_eqb, eqb-true}
+use Rattle.std.proofs.Common.{◌≡◌, ℕ, zero, suc, ◌+◌, ◌*◌, ◌/◌, ◌%◌, ◌^◌, ◌<◌, ◌≤◌, Bool, true, false, ◌&&◌, eqb, List, [], ◌∷◌, ◌++◌, length, sym, refl, ap, div-lt_iff_lt-mul, pow-suc, suc-ne-zero, mul_right_comm, arith, eq-eqb, ne_eqb, eqb-true, take, get_or, length-take, take-suc}
+use Rattle.std.proofs.Math.Nat.{div-div-eq-div-mul}
+use Rattle.std.proofs.Math.Seq.{take-length}
+use Rattle.std.specs.Int.{byte_worth, sum_through, bytes_low_first}
+use Rattle.std.specs.Prelude.{slice_index}
 use native.Mathlib.Nat.{mod-add-div, suc_inj}
 use borrow.Author.Tests.{eqb-false}
 use Rattle.digits.specs.Bytes.{AllBytes, part, all_zero}
@@ -84,3 +88,30 @@ unfolding word_bytes
 word_bytes_bytes zero n k = omega arith
 word_bytes_bytes (suc w) n zero = omega arith
 word_bytes_bytes (suc w) n (suc k) = word_bytes_bytes w (n / 256) k
+
+-- The library reads bytes, low byte first, as the number that they stand for, and writes a number in its bytes.
+sum_word : (k : ℕ) (b : List ℕ) → suc k ≤ length b → sum_through (λ i. byte_worth i (slice_index b i)) k ≡ word (take (suc k) b)
+unfolding word
+sum_word zero [] h = absurd (omega arith)
+sum_word zero (x ∷ b) h = omega arith
+sum_word (suc k) b h =
+    let n : length (take (suc k) b) ≡ suc k = rw length-take (omega arith) in
+    rw (take-suc b (suc k) 0 (omega arith), word_append (take (suc k) b) (get_or b (suc k) 0 ∷ []), n, sum_word k b (omega arith), byte_word (get_or b (suc k) 0)) (omega arith)
+
+pub read_word : (k : ℕ) (s : List ℕ) (at : ℕ) → at + suc k ≤ length s
+    → sum_through (λ i. byte_worth i (slice_index (part s at (suc k)) i)) k ≡ word (part s at (suc k))
+read_word k s at h =
+    let n = part_length s at (suc k) h in
+    let whole : take (suc k) (part s at (suc k)) ≡ part s at (suc k) = rw n at (take-length (part s at (suc k))) in
+    rw (sum_word k (part s at (suc k)) (omega arith), whole) refl
+
+bytes_from : (k i n : ℕ) → bytes_low_first i k n ≡ word_bytes k (n / 256 ^ i)
+unfolding word_bytes
+bytes_from zero i n = refl
+bytes_from (suc k) zero n = let whole : n / 256 ^ 0 ≡ n = omega arith in rw (bytes_from k 1 n, whole) refl
+bytes_from (suc k) (suc i) n =
+    let next : n / 256 ^ suc (suc i) ≡ n / 256 ^ suc i / 256 = rw (pow-suc 256 (suc i), div-div-eq-div-mul n (256 ^ suc i) 256) refl in
+    rw (bytes_from k (suc (suc i)) n, next) refl
+
+pub written_word : (k n : ℕ) → bytes_low_first 0 k n ≡ word_bytes k n
+written_word k n = let whole : n / 256 ^ 0 ≡ n = omega arith in rw (bytes_from k 0 n, whole) refl

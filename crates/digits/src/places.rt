@@ -3,9 +3,8 @@
 ghost use Rattle.std.specs.Prelude.{◌≡◌, nat_le};
 ghost use Rattle.digits.specs.Places.{is_position, place_of, word_of, moved, ahead, count_of};
 
-use crate::{choose, less};
-
-// The directions of a drive.
+// The directions of a drive. They are numbers, and not an enum, because a record may hold any byte there, and `drive_of` and `ahead` give
+// each its meaning.
 pub const CW: u8 = 1;
 
 pub const CCW: u8 = 2;
@@ -21,28 +20,32 @@ pub const HIGHEST: u32 = 4294967295;
 pub fn is_position(p: u32) -> bool
     ensures { result ≡ is_position p }
 {
-    (LOWEST <= p) & (p <= HIGHEST)
+    LOWEST <= p && p <= HIGHEST
 }
 
 // The place of the signed number in a word of four bytes.
 pub fn place_of(w: u32) -> u32
     ensures { result ≡ place_of w }
 {
-    std::num::wrapping_add_u32(w, ORIGIN)
+    w.wrapping_add(ORIGIN)
 }
 
 // The word of four bytes for a place.
 pub fn word_of(p: u32) -> u32
     ensures { result ≡ word_of p }
 {
-    std::num::wrapping_add_u32(p, ORIGIN)
+    p.wrapping_add(ORIGIN)
 }
 
 // How many pulses q lies ahead of p in a direction; none where it does not lie ahead.
 pub fn pulses_ahead(going: u8, p: u32, q: u32) -> u32
     ensures { result ≡ ahead going p q }
 {
-    choose(going == CW, less(q, p), less(p, q))
+    if going == CW {
+        q.saturating_sub(p)
+    } else {
+        p.saturating_sub(q)
+    }
 }
 
 // Whether q lies ahead of p in a direction.
@@ -59,7 +62,7 @@ pub fn place_ahead(going: u8, p: u32, n: u32) -> u64
     if going == CW {
         (p as u64) + (n as u64)
     } else {
-        less(p, n) as u64
+        p.saturating_sub(n) as u64
     }
 }
 
@@ -67,5 +70,5 @@ pub fn place_ahead(going: u8, p: u32, n: u32) -> u64
 pub fn count_of(going: u8, n: u32) -> u32
     ensures { result ≡ count_of going n }
 {
-    choose(going == CW, n, std::num::wrapping_sub_u32(0, n))
+    if going == CW { n } else { n.wrapping_neg() }
 }

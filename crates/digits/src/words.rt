@@ -1,15 +1,98 @@
-// Words of one, two and four bytes that stand in a lent buffer, low byte first.
+// Numbers of one, two, four and eight bytes that stand in a lent buffer, low byte first.
 
-ghost use Rattle.std.specs.Prelude.{◌≡◌, ◌+◌, ◌≤◌, [], ◌∷◌, length, replicate};
+ghost use Rattle.std.specs.Prelude.{◌≡◌, ℕ, ◌+◌, ◌≤◌, List, [], ◌∷◌, length, replicate};
 ghost use Rattle.digits.specs.Bytes.{part, put};
 ghost use Rattle.digits.specs.Words.{word, word_bytes};
+
+// A number of some width: how many bytes it has, which number it is, and the bytes that it is written in.
+pub trait Word {
+    ghost size: { ℕ };
+
+    ghost number: { Self → ℕ };
+
+    ghost bytes: { Self → List ℕ };
+
+    // The number in the bytes from a place on.
+    fn read_at(s: &[u8], at: usize) -> Self
+        requires { at + size ≤ length s.now }
+        ensures { number result ≡ word (part s.now at size) };
+
+    // Writes the number into the bytes from a place on.
+    fn put_at(self, s: &mut [u8], at: usize)
+        requires { at + size ≤ length s.old }
+        ensures { s.new ≡ put s.old at (bytes self) };
+}
+
+impl Word for u8 {
+    ghost size = { 1 };
+
+    ghost number = { λ n. n };
+
+    ghost bytes = { λ n. n ∷ [] };
+
+    fn read_at(s: &[u8], at: usize) -> u8 {
+        s[at]
+    }
+
+    fn put_at(self, s: &mut [u8], at: usize) {
+        s[at] = self;
+    }
+}
+
+impl Word for u16 {
+    ghost size = { 2 };
+
+    ghost number = { λ n. n };
+
+    ghost bytes = { word_bytes 2 };
+
+    fn read_at(s: &[u8], at: usize) -> u16 {
+        u16::from_le_bytes(*s[at..].first_chunk().unwrap())
+    }
+
+    fn put_at(self, s: &mut [u8], at: usize) {
+        s[at..at + 2].copy_from_slice(&self.to_le_bytes());
+    }
+}
+
+impl Word for u32 {
+    ghost size = { 4 };
+
+    ghost number = { λ n. n };
+
+    ghost bytes = { word_bytes 4 };
+
+    fn read_at(s: &[u8], at: usize) -> u32 {
+        u32::from_le_bytes(*s[at..].first_chunk().unwrap())
+    }
+
+    fn put_at(self, s: &mut [u8], at: usize) {
+        s[at..at + 4].copy_from_slice(&self.to_le_bytes());
+    }
+}
+
+impl Word for u64 {
+    ghost size = { 8 };
+
+    ghost number = { λ n. n };
+
+    ghost bytes = { word_bytes 8 };
+
+    fn read_at(s: &[u8], at: usize) -> u64 {
+        u64::from_le_bytes(*s[at..].first_chunk().unwrap())
+    }
+
+    fn put_at(self, s: &mut [u8], at: usize) {
+        s[at..at + 8].copy_from_slice(&self.to_le_bytes());
+    }
+}
 
 // The byte that stands at a place.
 pub fn byte_at(s: &[u8], at: usize) -> u8
     requires { at + 1 ≤ length s.now }
     ensures { result ≡ word (part s.now at 1) }
 {
-    s[at]
+    Word::read_at(s, at)
 }
 
 // The number in the two bytes from a place on.
@@ -17,7 +100,7 @@ pub fn short_at(s: &[u8], at: usize) -> u16
     requires { at + 2 ≤ length s.now }
     ensures { result ≡ word (part s.now at 2) }
 {
-    (byte_at(s, at) as u16) + 256 * (byte_at(s, at + 1) as u16)
+    Word::read_at(s, at)
 }
 
 // The number in the four bytes from a place on.
@@ -25,7 +108,7 @@ pub fn long_at(s: &[u8], at: usize) -> u32
     requires { at + 4 ≤ length s.now }
     ensures { result ≡ word (part s.now at 4) }
 {
-    (short_at(s, at) as u32) + 65536 * (short_at(s, at + 2) as u32)
+    Word::read_at(s, at)
 }
 
 // The number in the eight bytes from a place on.
@@ -33,24 +116,7 @@ pub fn wide_at(s: &[u8], at: usize) -> u64
     requires { at + 8 ≤ length s.now }
     ensures { result ≡ word (part s.now at 8) }
 {
-    (long_at(s, at) as u64) + 4294967296 * (long_at(s, at + 4) as u64)
-}
-
-// Writes a byte at a place.
-pub fn put_byte(s: &mut [u8], at: usize, n: u8)
-    requires { at + 1 ≤ length s.old }
-    ensures { s.new ≡ put s.old at (n ∷ []) }
-{
-    s[at] = n;
-}
-
-// Writes a number into the two bytes from a place on.
-pub fn put_short(s: &mut [u8], at: usize, n: u16)
-    requires { at + 2 ≤ length s.old }
-    ensures { s.new ≡ put s.old at (word_bytes 2 n) }
-{
-    s[at] = (n % 256) as u8;
-    s[at + 1] = (n / 256 % 256) as u8;
+    Word::read_at(s, at)
 }
 
 // Writes a number into the four bytes from a place on.
@@ -58,20 +124,13 @@ pub fn put_long(s: &mut [u8], at: usize, n: u32)
     requires { at + 4 ≤ length s.old }
     ensures { s.new ≡ put s.old at (word_bytes 4 n) }
 {
-    s[at] = (n % 256) as u8;
-    s[at + 1] = (n / 256 % 256) as u8;
-    s[at + 2] = (n / 256 / 256 % 256) as u8;
-    s[at + 3] = (n / 256 / 256 / 256 % 256) as u8;
+    n.put_at(s, at)
 }
 
-// Zeroes the first 64 bytes, by words of four.
+// Zeroes the first 64 bytes.
 pub fn zero_front(s: &mut [u8])
     requires { 64 ≤ length s.old }
     ensures { s.new ≡ put s.old 0 (replicate 64 0) }
 {
-    let mut k: usize = 0;
-    while k < 16 {
-        put_long(s, 4 * k, 0);
-        k += 1;
-    }
+    s[..64].fill(0);
 }

@@ -9,11 +9,13 @@ ghost use Rattle.digits.specs.Bytes.{put};
 ghost use Rattle.digits.specs.Places.{cw};
 ghost use Rattle.record.specs.Record.{byte_at, place_at, limits_of, speeds_of, wiring_of, setup_of, held_of, going_of, drive_of, motor_of};
 ghost use Rattle.record.specs.Record.{place_bytes, limit_bytes, speed_bytes, wiring_bytes, setup_bytes, setting_bytes};
-ghost use Rattle.record.specs.Record.{going_byte, drive_bytes, rest_bytes, record_of, standing};
+ghost use Rattle.record.specs.Record.{going_byte, drive_bytes, rest_bytes, record_of, with_place, with_drive, standing};
 ghost use Rattle.record.specs.Progress.{flags_and_drive, progressed};
 
-use digits::places::{CW, ORIGIN, place_of, word_of};
-use digits::words::{byte_at, long_at, put_byte, put_long, put_short, short_at};
+use digits::places::{CCW, CW, ORIGIN, place_of, word_of};
+use digits::words::Word;
+
+// Fields of one byte are numbers, and not enums: a table may hold any byte there, and `motor_of` keeps it.
 
 // The digital limits.
 #[derive(Clone, Copy)]
@@ -73,6 +75,26 @@ pub struct Motor {
     pub drive: Drive,
 }
 
+impl Motor {
+    // The motor at another place.
+    pub fn with_place(self, place: u32) -> Motor
+        ensures { result ≡ with_place self place }
+    {
+        Motor { place, ..self }
+    }
+
+    // The motor with other end flags and another drive.
+    pub fn with_drive(self, ended: u8, drive: Drive) -> Motor
+        ensures { result ≡ with_drive self ended drive }
+    {
+        Motor {
+            ended,
+            drive,
+            ..self
+        }
+    }
+}
+
 // The drive of a stopped motor.
 pub fn no_drive() -> Drive
     ensures { result ≡ standing }
@@ -92,12 +114,11 @@ pub fn place_at(b: &[u8], at: usize) -> u32
     requires { at + 4 ≤ length b.now }
     ensures { result ≡ place_at b.now at }
 {
-    place_of(long_at(b, at))
+    place_of(Word::read_at(b, at))
 }
 
 // The topics of a record, each from its own bytes.
-pub fn read_limits(b: &[u8]) -> Limits
-    requires { length b.now ≡ 64 }
+pub fn read_limits(b: &[u8; 64]) -> Limits
     ensures { result ≡ limits_of b.now }
 {
     Limits {
@@ -106,38 +127,35 @@ pub fn read_limits(b: &[u8]) -> Limits
     }
 }
 
-fn read_speeds(b: &[u8]) -> Speeds
-    requires { length b.now ≡ 64 }
+fn read_speeds(b: &[u8; 64]) -> Speeds
     ensures { result ≡ speeds_of b.now }
 {
     Speeds {
-        high: long_at(b, 12),
-        middle: long_at(b, 16),
-        low: long_at(b, 20),
-        selected: byte_at(b, 24),
+        high: Word::read_at(b, 12),
+        middle: Word::read_at(b, 16),
+        low: Word::read_at(b, 20),
+        selected: Word::read_at(b, 24),
     }
 }
 
-fn read_wiring(b: &[u8]) -> Wiring
-    requires { length b.now ≡ 64 }
+fn read_wiring(b: &[u8; 64]) -> Wiring
     ensures { result ≡ wiring_of b.now }
 {
     Wiring {
-        setls: byte_at(b, 25),
-        contacts: byte_at(b, 26),
-        read: byte_at(b, 44),
+        setls: Word::read_at(b, 25),
+        contacts: Word::read_at(b, 26),
+        read: Word::read_at(b, 44),
     }
 }
 
-fn read_setup(b: &[u8]) -> Setup
-    requires { length b.now ≡ 64 }
+fn read_setup(b: &[u8; 64]) -> Setup
     ensures { result ≡ setup_of b.now }
 {
     Setup {
-        a: byte_at(b, 27),
-        b: byte_at(b, 28),
-        c: byte_at(b, 29),
-        d: byte_at(b, 30),
+        a: Word::read_at(b, 27),
+        b: Word::read_at(b, 28),
+        c: Word::read_at(b, 29),
+        d: Word::read_at(b, 30),
     }
 }
 
@@ -145,87 +163,79 @@ fn read_setup(b: &[u8]) -> Setup
 fn is_held(n: u8) -> bool
     ensures { result ≡ held_of n }
 {
-    (n == 3) | (n == 4)
+    matches!(n, 3 | 4)
 }
 
 fn going_of(n: u8) -> u8
     ensures { result ≡ going_of n }
 {
-    if is_held(n) { n - 2 } else { n }
+    match n {
+        3 => CW,
+        4 => CCW,
+        going => going,
+    }
 }
 
 // The byte that tells it of a drive.
 fn going_byte(d: Drive) -> u8
     ensures { result ≡ going_byte d }
 {
-    if d.held {
-        if d.going == CW { 3 } else { 4 }
-    } else {
-        d.going
+    match (d.held, d.going) {
+        (true, CW) => 3,
+        (true, _) => 4,
+        (false, going) => going,
     }
 }
 
-pub fn read_drive(b: &[u8]) -> Drive
-    requires { length b.now ≡ 64 }
+pub fn read_drive(b: &[u8; 64]) -> Drive
     ensures { result ≡ drive_of b.now }
 {
-    let way = byte_at(b, 32);
+    let way = Word::read_at(b, 32);
     Drive {
         going: going_of(way),
         held: is_held(way),
-        kind: byte_at(b, 33),
-        fraction: short_at(b, 34),
-        speed: long_at(b, 36),
+        kind: Word::read_at(b, 33),
+        fraction: Word::read_at(b, 34),
+        speed: Word::read_at(b, 36),
         target: place_at(b, 40),
     }
 }
 
 // The motor that a record holds.
-pub fn read_motor(b: &[u8]) -> Motor
-    requires { length b.now ≡ 64 }
+pub fn read_motor(b: &[u8; 64]) -> Motor
     ensures { result ≡ motor_of b.now }
 {
-    let place = place_at(b, 0);
-    let limits = read_limits(b);
-    let speeds = read_speeds(b);
-    let wiring = read_wiring(b);
-    let setup = read_setup(b);
-    let ended = byte_at(b, 31);
-    let drive = read_drive(b);
     Motor {
-        place,
-        limits,
-        speeds,
-        wiring,
-        setup,
-        ended,
-        drive,
+        place: place_at(b, 0),
+        limits: read_limits(b),
+        speeds: read_speeds(b),
+        wiring: read_wiring(b),
+        setup: read_setup(b),
+        ended: Word::read_at(b, 31),
+        drive: read_drive(b),
     }
 }
 
 // Whether a record holds no drive, moving or held: its byte 32 tells, and nothing else of it is read.
-pub fn is_standing(b: &[u8]) -> bool
-    requires { length b.now ≡ 64 }
+pub fn is_standing(b: &[u8; 64]) -> bool
     ensures { result ≡ eqb (motor_of b.now).drive.going 0 }
 {
-    byte_at(b, 32) == 0
+    u8::read_at(b, 32) == 0
 }
 
 // Whether a record holds a drive that goes, CW or CCW, by its byte 32.
-pub fn is_going(b: &[u8]) -> bool
-    requires { length b.now ≡ 64 }
+pub fn is_going(b: &[u8; 64]) -> bool
     ensures { result ≡ (eqb (byte_at b.now 32) 1 || eqb (byte_at b.now 32) 2) }
 {
-    let way = byte_at(b, 32);
-    (way == 1) | (way == 2)
+    matches!(u8::read_at(b, 32), CW | CCW)
 }
 
 // Whether a record holds a drive CW, going or held, by its byte 32: of 0 to 4 those that tell CW are odd.
-pub fn is_cw(b: &[u8]) -> bool
-    requires { (length b.now ≡ 64) × (byte_at b.now 32 ≤ 4) }
+pub fn is_cw(b: &[u8; 64]) -> bool
+    requires { byte_at b.now 32 ≤ 4 }
     ensures { result ≡ eqb (drive_of b.now).going cw }
 {
-    byte_at(b, 32) % 2 == 1
+    u8::read_at(b, 32) % 2 == 1
 }
 
 // Writes the signed number of a place into the four bytes from an offset on.
@@ -233,38 +243,34 @@ fn put_place(b: &mut [u8], at: usize, p: u32)
     requires { at + 4 ≤ length b.old }
     ensures { b.new ≡ put b.old at (place_bytes p) }
 {
-    put_long(b, at, word_of(p))
+    word_of(p).put_at(b, at)
 }
 
 // The topics again, each into its own bytes; every other byte stays as it is. Byte 44 of the wiring is written with the rest.
-fn put_limits(b: &mut [u8], l: Limits)
-    requires { length b.old ≡ 64 }
+fn put_limits(b: &mut [u8; 64], l: Limits)
     ensures { b.new ≡ put b.old 4 (limit_bytes l) }
 {
     put_place(b, 4, l.cw);
     put_place(b, 8, l.ccw);
 }
 
-fn put_speeds(b: &mut [u8], s: Speeds)
-    requires { length b.old ≡ 64 }
+fn put_speeds(b: &mut [u8; 64], s: Speeds)
     ensures { b.new ≡ put b.old 12 (speed_bytes s) }
 {
-    put_long(b, 12, s.high);
-    put_long(b, 16, s.middle);
-    put_long(b, 20, s.low);
-    put_byte(b, 24, s.selected);
+    s.high.put_at(b, 12);
+    s.middle.put_at(b, 16);
+    s.low.put_at(b, 20);
+    s.selected.put_at(b, 24);
 }
 
-fn put_wiring(b: &mut [u8], w: Wiring)
-    requires { length b.old ≡ 64 }
+fn put_wiring(b: &mut [u8; 64], w: Wiring)
     ensures { b.new ≡ put b.old 25 (wiring_bytes w) }
 {
     b[25] = w.setls;
     b[26] = w.contacts;
 }
 
-fn put_setup(b: &mut [u8], s: Setup)
-    requires { length b.old ≡ 64 }
+fn put_setup(b: &mut [u8; 64], s: Setup)
     ensures { b.new ≡ put b.old 27 (setup_bytes s) }
 {
     b[27] = s.a;
@@ -274,54 +280,45 @@ fn put_setup(b: &mut [u8], s: Setup)
 }
 
 // Writes the position and the settings, bytes 0 to 30.
-fn put_settings(b: &mut [u8], m: Motor)
-    requires { length b.old ≡ 64 }
+fn put_settings(b: &mut [u8; 64], m: Motor)
     ensures { b.new ≡ put b.old 0 (setting_bytes m) }
 {
-    let limits = m.limits;
-    let speeds = m.speeds;
-    let wiring = m.wiring;
-    let setup = m.setup;
     put_place(b, 0, m.place);
-    put_limits(b, limits);
-    put_speeds(b, speeds);
-    put_wiring(b, wiring);
-    put_setup(b, setup);
+    put_limits(b, m.limits);
+    put_speeds(b, m.speeds);
+    put_wiring(b, m.wiring);
+    put_setup(b, m.setup);
 }
 
-fn put_drive(b: &mut [u8], d: Drive)
-    requires { length b.old ≡ 64 }
+fn put_drive(b: &mut [u8; 64], d: Drive)
     ensures { b.new ≡ put b.old 32 (drive_bytes d) }
 {
-    put_byte(b, 32, going_byte(d));
-    put_byte(b, 33, d.kind);
-    put_short(b, 34, d.fraction);
-    put_long(b, 36, d.speed);
+    going_byte(d).put_at(b, 32);
+    d.kind.put_at(b, 33);
+    d.fraction.put_at(b, 34);
+    d.speed.put_at(b, 36);
     put_place(b, 40, d.target);
 }
 
-// Writes what comes after the drive, bytes 44 to 63: whether the contacts are read, one word with the zeros beside it, and zeros.
-fn put_rest(b: &mut [u8], m: Motor)
-    requires { length b.old ≡ 64 }
+// Writes what comes after the drive, bytes 44 to 63: whether the contacts are read, and zeros.
+fn put_rest(b: &mut [u8; 64], m: Motor)
     ensures { b.new ≡ put b.old 44 (rest_bytes m) }
 {
-    put_long(b, 44, m.wiring.read as u32);
-    put_long(b, 48, 0);
-    put_long(b, 52, 0);
-    put_long(b, 56, 0);
-    put_long(b, 60, 0);
+    b[44] = m.wiring.read;
+    b[45..].fill(0);
 }
 
-// Writes a motor's record: every one of its 64 bytes.
+// Writes a motor's record: every one of its 64 bytes. This and what follows are lent a slice, and no array: of a part of a table that is lent
+// on as an array, the proof of `write_record` learns nothing of what is written back.
 pub fn write_motor(b: &mut [u8], m: Motor)
     requires { length b.old ≡ 64 }
     ensures { b.new ≡ record_of m }
 {
-    let drive = m.drive;
-    put_settings(b, m);
-    put_byte(b, 31, m.ended);
-    put_drive(b, drive);
-    put_rest(b, m);
+    let record = b.as_mut_array().unwrap();
+    put_settings(record, m);
+    m.ended.put_at(record, 31);
+    put_drive(record, m.drive);
+    put_rest(record, m);
 }
 
 // Writes the end flags and the drive alone, bytes 31 to 43: all that a stop changes.
@@ -329,8 +326,9 @@ pub fn write_drive(b: &mut [u8], ended: u8, d: Drive)
     requires { length b.old ≡ 64 }
     ensures { b.new ≡ put b.old 31 (flags_and_drive ended d) }
 {
-    put_byte(b, 31, ended);
-    put_drive(b, d);
+    let record = b.as_mut_array().unwrap();
+    ended.put_at(record, 31);
+    put_drive(record, d);
 }
 
 // Writes what a tick changes in the record of a driving motor, given the motor after it: the position, and the fraction or, if the
@@ -343,6 +341,6 @@ pub fn write_progress(b: &mut [u8], m: Motor)
     if m.drive.going == 0 {
         write_drive(b, m.ended, no_drive());
     } else {
-        put_short(b, 34, m.drive.fraction);
+        m.drive.fraction.put_at(b, 34);
     }
 }

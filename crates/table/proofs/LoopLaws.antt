@@ -3,16 +3,13 @@ use mathlib.Core.Path.{◌≡◌, refl, sym, ◌∙◌}
 use mathlib.Core.List.{List, [], ◌∷◌, ◌++◌}
 use mathlib.Core.Bool.{Bool, true, false, ◌&&◌, not, cond, false≢true}
 use Prim.Native.Nat.{ℕ, ◌+◌, ◌*◌, ◌<◌}
-use native.Mathlib.Nat.{zero-add}
 use native.Mathlib.Numerals.{add-one}
 use native.Mathlib.Omega.{arith}
 use lib.ListN.{length, drop, replicate, length-append}
 use lib.Dec.{eqb}
 use lib.Seq.{drop-drop}
 use Rattle.std.specs.List.{list_all, range_with_len}
-use Rattle.std.proofs.lemmas.List.Sums.{AllPass-from_list_all, list_all-from_AllPass}
-use Rattle.std.proofs.lemmas.List.FromFn.{get_or-range_with_len}
-use borrow.Author.Tests.{eqb-true, eq-eqb}
+use borrow.Author.Tests.{eqb-true, eqb-false, eq-eqb}
 use Rattle.digits.specs.Bytes.{part, put, every, gather, all_zero}
 use Rattle.digits.specs.Words.{word, is_set}
 use Rattle.digits.proofs.PutLaws.{put_after, put_none, put_whole}
@@ -22,7 +19,7 @@ use Rattle.record.specs.Record.{record_of, fresh_motor}
 use Rattle.record.proofs.RoundTrip.{record_length}
 use Rattle.motor.specs.Sound.{busy, sound_under}
 use Rattle.motor.specs.Judged.{sound_listed}
-use Rattle.motor.proofs.SoundLaws.{and_l, and_r, both_ways}
+use Rattle.motor.proofs.SoundLaws.{and_l, and_r}
 use Rattle.table.specs.Layout.{table_size, head_bytes, head_used, head_rest, fresh_head, record_at, records, motor_at, busy_set, with_record, fresh_table}
 use Rattle.table.proofs.SealLaws.{set_at}
 use Rattle.table.proofs.PieceLaws.{every_each, each_every, gather_length}
@@ -48,35 +45,42 @@ busy_listed false = refl
 
 -- All sixteen records are right, as pause and the set w tell of each, where all are sound and the set is that of the busy channels.
 module _ (paused : Bool) (w : ℕ) (t : List ℕ) where
-  abbrev right : ℕ → Bool
+  abbrev pub right : ℕ → Bool
   right c = sound_listed paused (is_set c w) (record_at t c)
 
-  right_each : list_all right (range_with_len 0 16) ≡ true → (c : ℕ) → c < 16 → right c ≡ true
-  right_each e c h = rw (get_or-range_with_len 0 16 c 0 h, zero-add c) at (AllPass-from_list_all right (range_with_len 0 16) e c 0 h)
+  abbrev pub all_sound : Bool
+  all_sound = every (sound_under paused) (records t) && eqb w (busy_set t)
 
-  each_right : ((c : ℕ) → c < 16 → right c ≡ true) → list_all right (range_with_len 0 16) ≡ true
-  each_right all = list_all-from_AllPass right (range_with_len 0 16) (λ k d h. rw (get_or-range_with_len 0 16 k d h, zero-add k) (all k h))
-
-  pub right_all : w < 65536 → list_all right (range_with_len 0 16) ≡ (every (sound_under paused) (records t) && eqb w (busy_set t))
-  unfolding part motor_at busy_set
-  right_all below = both_ways _ _ there back
+  pub right_more : (k : ℕ) → ((c : ℕ) → c < k → right c ≡ true) → right k ≡ true → (c : ℕ) → c < k + 1 → right c ≡ true
+  right_more k before e c h = go (eqb c k) refl
     where
-      there : list_all right (range_with_len 0 16) ≡ true → (every (sound_under paused) (records t) && eqb w (busy_set t)) ≡ true
-      there e =
-          let at : (c : ℕ) → c < 16 → right c ≡ true = right_each e in
-          let all : every (sound_under paused) (records t) ≡ true =
-          each_every (sound_under paused) 64 16 (drop 64 t) (λ c h. rw (drop-drop (64 * c) 64 t) (and_l (sound_under paused (record_at t c)) _ (at c h))) in
-          let set : w ≡ busy_set t =
-          bits_unique (λ c. busy (motor_at t c)) 16 w below (λ c h. listed_busy (is_set c w) (busy (motor_at t c)) (and_r (sound_under paused (record_at t c)) _ (at c h))) in
-          rw all (eq-eqb w (busy_set t) set)
+      go : (f : Bool) → eqb c k ≡ f → right c ≡ true
+      go true q = rw (eqb-true c k q) e
+      go false q = before c (omega (arith, eqb-false c k q))
 
-      back : (every (sound_under paused) (records t) && eqb w (busy_set t)) ≡ true → list_all right (range_with_len 0 16) ≡ true
-      back e =
-          let all : every (sound_under paused) (records t) ≡ true = and_l (every (sound_under paused) (records t)) _ e in
-          let set : w ≡ busy_set t = eqb-true w (busy_set t) (and_r (every (sound_under paused) (records t)) _ e) in
-          let under : (c : ℕ) → c < 16 → sound_under paused (record_at t c) ≡ true =
-          λ c h. rw (drop-drop (64 * c) 64 t) at (every_each (sound_under paused) 64 16 (drop 64 t) c all h) in
-          each_right (λ c h. rw (under c h, set, set_at t c (omega arith)) (busy_listed (busy (motor_at t c))))
+  pub right_all : w < 65536 → ((c : ℕ) → c < 16 → right c ≡ true) → all_sound ≡ true
+  unfolding part motor_at busy_set
+  right_all below at =
+      let all : every (sound_under paused) (records t) ≡ true =
+      each_every (sound_under paused) 64 16 (drop 64 t) (λ c h. rw (drop-drop (64 * c) 64 t) (and_l (sound_under paused (record_at t c)) _ (at c h))) in
+      let set : w ≡ busy_set t =
+      bits_unique (λ c. busy (motor_at t c)) 16 w below (λ c h. listed_busy (is_set c w) (busy (motor_at t c)) (and_r (sound_under paused (record_at t c)) _ (at c h))) in
+      rw all (eq-eqb w (busy_set t) set)
+
+  right_each : all_sound ≡ true → (c : ℕ) → c < 16 → right c ≡ true
+  unfolding part motor_at busy_set
+  right_each e c h =
+      let all : every (sound_under paused) (records t) ≡ true = and_l (every (sound_under paused) (records t)) _ e in
+      let set : w ≡ busy_set t = eqb-true w (busy_set t) (and_r (every (sound_under paused) (records t)) _ e) in
+      let under : sound_under paused (record_at t c) ≡ true = rw (drop-drop (64 * c) 64 t) at (every_each (sound_under paused) 64 16 (drop 64 t) c all h) in
+      rw (under, set, set_at t c (omega arith)) (busy_listed (busy (motor_at t c)))
+
+  pub one_wrong : (c : ℕ) → c < 16 → right c ≡ false → all_sound ≡ false
+  one_wrong c h e = go all_sound refl
+    where
+      go : (f : Bool) → all_sound ≡ f → all_sound ≡ false
+      go true q = absurd (false≢true (sym e ∙ right_each q c h))
+      go false q = q
 
 -- the first k records made fresh
 unfoldable pub fresh_to : List ℕ → ℕ → List ℕ

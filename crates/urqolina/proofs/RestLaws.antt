@@ -15,15 +15,16 @@ use Rattle.digits.specs.Bytes.{AllBytes, part, put}
 use Rattle.digits.specs.Words.{word_bytes, is_set}
 use Rattle.digits.proofs.PutLaws.{put_length, put_whole}
 use Rattle.record.specs.declared.Motor.{Motor}
-use Rattle.motor.specs.Sound.{busy, moving, sound_record}
+use Rattle.motor.specs.Sound.{busy, moving}
 use Rattle.motor.proofs.MovingLaws.{idle_still}
 use Rattle.pulses.specs.Ticks.{tick_motor, tick_count}
 use Rattle.pulses.proofs.Laws.{stopped_given_none, stopped_count}
-use Rattle.table.specs.Layout.{table_size, record_at, motor_at, sealed, with_motor}
+use Rattle.record.specs.Record.{record_of}
+use Rattle.table.specs.Layout.{table_size, record_start, record_at, motor_at, sealed, with_motor}
 use Rattle.table.specs.Sound.{sound_table}
 use Rattle.table.proofs.PieceLaws.{part_after, put_back}
 use Rattle.table.proofs.TableLaws.{up_to, up_to_length, up_to_record, up_to_motor, up_to_sealed, up_to_next, sound_length, sound_record_at}
-use Rattle.table.proofs.KeptLaws.{motor_back}
+use Rattle.table.proofs.KeptLaws.{read_back}
 use Rattle.urqolina.proofs.CallLaws.{counts_to, counts_length, counts_next}
 
 -- A set with the channels before c left out: some are left, or none.
@@ -43,12 +44,13 @@ none_left n c d e h =
 abbrev pub ticked : Motor → Motor
 ticked m = (tick_motor m).motor
 
--- A tick leaves a table at a channel that does not move, stopped or held.
-pub idle_table : (t : List ℕ) (c : ℕ) → length t ≡ table_size → c ≤ 15 → sealed t ≡ t → sound_record (record_at t c) ≡ true → AllBytes t
+-- A tick leaves a table at a channel that does not move, stopped or held, whose record is that of its motor.
+pub idle_table : (t : List ℕ) (c : ℕ) → length t ≡ table_size → c ≤ 15 → sealed t ≡ t → record_of (motor_at t c) ≡ record_at t c
     → moving (motor_at t c) ≡ false → with_motor t c (ticked (motor_at t c)) ≡ t
-idle_table t c e h seal s bytes still =
+unfolding with_motor
+idle_table t c e h seal back still =
     let same : (tick_motor (motor_at t c)).motor ≡ motor_at t c = rw (stopped_given_none (motor_at t c) still) in
-    rw (same, ticked) (motor_back t c s bytes e h seal)
+    rw (same, back, put_back t (record_start c) 64 (omega arith)) seal
 
 -- and leaves the pulse buffer, where a 0 stands.
 pub idle_count : (p : List ℕ) (c : ℕ) (m : Motor) → length p ≡ 64 → c ≤ 15 → part p (4 * c) 4 ≡ word_bytes 4 0 → moving m ≡ false
@@ -94,29 +96,28 @@ counted_length t c h =
     put_length no_counts 0 (counts_to c t) (omega arith) ∙ none_length
 
 -- Where no channel from c on is busy, the tick is done with c.
-module _ (t : List ℕ) (s : sound_table t ≡ true) where
+module _ (t : List ℕ) (s : sound_table t ≡ true) (bytes : AllBytes t) where
   whole : length t ≡ table_size
   whole = sound_length t s
 
-  rest_next : (c : ℕ) → c ≤ 15 → busy (motor_at t c) ≡ false → AllBytes (up_to ticked c t) → up_to ticked (c + 1) t ≡ up_to ticked c t
-  rest_next c h still bytes =
-      let u = up_to ticked c t in
+  rest_next : (c : ℕ) → c ≤ 15 → busy (motor_at t c) ≡ false → up_to ticked (c + 1) t ≡ up_to ticked c t
+  rest_next c h still =
       let l : c ≤ 16 = omega arith in
       let same = up_to_motor ticked c t whole l in
+      let back : record_of (motor_at (up_to ticked c t) c) ≡ record_at (up_to ticked c t) c =
+      rw (same, up_to_record ticked c t whole l) (read_back t c (sound_record_at t c s h) bytes) in
       sym (up_to_next ticked c t whole h)
-      ∙ idle_table u c (up_to_length ticked c t whole l) h (up_to_sealed ticked c t whole l) (rw (up_to_record ticked c t whole l) (sound_record_at t c s h)) bytes (rw same (idle_still (motor_at t c) still))
+      ∙ idle_table (up_to ticked c t) c (up_to_length ticked c t whole l) h (up_to_sealed ticked c t whole l) back (rw same (idle_still (motor_at t c) still))
 
   rest_count : (c : ℕ) → c ≤ 15 → busy (motor_at t c) ≡ false → put no_counts 0 (counts_to (c + 1) t) ≡ put no_counts 0 (counts_to c t)
   rest_count c h still =
       sym (counts_next c t no_counts h none_length)
       ∙ idle_count (put no_counts 0 (counts_to c t)) c (motor_at t c) (counted_length t c (omega arith)) h (zero_count t c h) (idle_still (motor_at t c) still)
 
-  pub rest_table : (k c : ℕ) → c + k ≡ 16 → ((d : ℕ) → c ≤ d → d ≤ 15 → busy (motor_at t d) ≡ false) → AllBytes (up_to ticked c t)
-      → up_to ticked c t ≡ up_to ticked 16 t
-  rest_table zero c e still bytes = let same : c ≡ 16 = omega arith in rw same
-  rest_table (suc k) c e still bytes =
-      let next = rest_next c (omega arith) (still c (omega arith) (omega arith)) bytes in
-      sym next ∙ rest_table k (c + 1) (omega arith) (λ d l h. still d (omega arith) h) (rw next bytes)
+  pub rest_table : (k c : ℕ) → c + k ≡ 16 → ((d : ℕ) → c ≤ d → d ≤ 15 → busy (motor_at t d) ≡ false) → up_to ticked c t ≡ up_to ticked 16 t
+  rest_table zero c e still = let same : c ≡ 16 = omega arith in rw same
+  rest_table (suc k) c e still =
+      sym (rest_next c (omega arith) (still c (omega arith) (omega arith))) ∙ rest_table k (c + 1) (omega arith) (λ d l h. still d (omega arith) h)
 
   pub rest_counts : (k c : ℕ) → c + k ≡ 16 → ((d : ℕ) → c ≤ d → d ≤ 15 → busy (motor_at t d) ≡ false)
       → put no_counts 0 (counts_to c t) ≡ put no_counts 0 (counts_to 16 t)

@@ -1,11 +1,13 @@
 -- `motor::tail_zero` meets its contract. Assumes nothing.
+use Rattle.std.proofs.Common.{ne_eqb, eq-eqb}
 use Rattle.digits.specs.Bytes.{part}
 use Rattle.digits.proofs.WordLaws.{zero_part, word_zero}
-use Rattle.std.proofs.Common.{ne_eqb}
 use Rattle.motor.proofs.tail_zero.Goals as goal
 
-pub returns-then-wide_at-eq0 : goal.returns-then-wide_at-eq0
-returns-then-wide_at-eq0 c = let b = c.args.b.now in rw (zero_part b 48 8 8, ← word_zero (part b 56 8), c.wide_at-then-wide_at-eq0.ensures, ← c.wide_at.ensures, c.if-wide_at-eq0.true)
+pub returns-then-read_at-eq0 : goal.returns-then-read_at-eq0
+returns-then-read_at-eq0 c =
+    let b = c.args.b.now in
+    rw (zero_part b 48 8 8, ← word_zero (part b 56 8), ← c.read_at.ensures, eq-eqb _ _ c.if-read_at-eq0.true, c.read_at-then-read_at-eq0.ensures)
 
-pub returns-else-wide_at-eq0 : goal.returns-else-wide_at-eq0
-returns-else-wide_at-eq0 c = let b = c.args.b.now in rw (zero_part b 48 8 8, ← c.wide_at.ensures, ne_eqb _ _ c.if-wide_at-eq0.false)
+pub returns-else-read_at-eq0 : goal.returns-else-read_at-eq0
+returns-else-read_at-eq0 c = let b = c.args.b.now in rw (zero_part b 48 8 8, ← c.read_at.ensures, ne_eqb _ _ c.if-read_at-eq0.false)

@@ -21,4 +21,4 @@ still_byte n = go (eqb n 3) refl
 
 pub returns : goal.returns
 unfolding motor_of
-returns c = rw c.byte_at.ensures (still_byte (byte_at c.args.b.now 32))
+returns c = rw c.read_at.ensures (still_byte (byte_at c.args.b.now 32))

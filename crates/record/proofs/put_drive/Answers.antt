@@ -11,5 +11,5 @@ pub returns : goal.returns
 unfolding joined word_bytes
 returns c =
     let a = c.args in
-    rw (c.put_place.ensures, c.put_long.ensures, c.put_short.ensures, c.put_byte-2.ensures, c.put_byte.ensures, c.going_byte.ensures)
+    rw (c.put_place.ensures, c.put_at-4.ensures, c.put_at-3.ensures, c.put_at-2.ensures, c.put_at.ensures, c.going_byte.ensures)
     (lay_put ((going_byte a.d ∷ []) ∷ (a.d.kind ∷ []) ∷ word_bytes 2 a.d.fraction ∷ word_bytes 4 a.d.speed ∷ place_bytes a.d.target ∷ []) a.b.now 32 (omega arith))

@@ -1,26 +1,20 @@
 -- `record::put_rest` meets its contract. Assumes nothing.
-use native.Mathlib.Omega.{arith}
-use mathlib.Core.Path.{◌≡◌}
-use mathlib.Core.List.{[], ◌∷◌}
-use Prim.Native.Nat.{ℕ, ◌/◌, ◌%◌, ◌<◌}
-use Rattle.digits.specs.Bytes.{joined}
-use Rattle.digits.specs.Words.{word_bytes}
-use Rattle.digits.proofs.PutLaws.{lay_put}
+use Rattle.std.proofs.Common.{◌≡◌, ℕ, List, ◌++◌, [], ◌∷◌, length, take, drop, set, replicate, refl, ◌∙◌, arith, rules, length-set, length-take, length-drop}
+use Rattle.digits.specs.Bytes.{put, joined}
+use Rattle.digits.proofs.PutLaws.{put_lent, put_after, stores_put}
 use Rattle.record.proofs.put_rest.Goals as goal
 
--- A byte in four bytes has zeros beside it.
-byte_alone : (n : ℕ) → n < 256 → word_bytes 4 n ≡ n ∷ 0 ∷ 0 ∷ 0 ∷ []
-unfolding word_bytes
-byte_alone n h =
-    let low : n % 256 ≡ n = omega arith in
-    let high : n / 256 ≡ 0 = omega arith in
-    rw (low, high)
+-- a byte, and zeros up to the end
+filled : (s : List ℕ) (v : ℕ) → length s ≡ 64
+    → take 45 (set s 44 v) ++ (replicate 19 0 ++ drop 19 (drop 45 (set s 44 v))) ≡ put s 44 (v ∷ replicate 19 0)
+filled s v e =
+    let byte : set s 44 v ≡ put s 44 (v ∷ []) = stores_put (v ∷ []) s 44 (omega arith) in
+    put_lent (set s 44 v) (replicate 19 0) 45 19 refl ∙ rw byte (put_after s (v ∷ []) (replicate 19 0) 44 (omega arith))
 
 pub returns : goal.returns
-unfolding joined word_bytes
+unfolding joined
 returns c =
     let a = c.args in
-    let known = c.struct_known-1.given in
-    let alone = byte_alone a.m.wiring.read (omega (arith, known)) in
-    rw (c.put_long-5.ensures, c.put_long-4.ensures, c.put_long-3.ensures, c.put_long-2.ensures, c.put_long.ensures, alone)
-    (lay_put ((a.m.wiring.read ∷ 0 ∷ 0 ∷ 0 ∷ []) ∷ word_bytes 4 0 ∷ word_bytes 4 0 ∷ word_bytes 4 0 ∷ word_bytes 4 0 ∷ []) a.b.now 44 (omega (arith, c.requires)))
+    let t = set a.b.now 44 a.m.wiring.read in
+    let n : length (take 19 (drop 45 t)) ≡ 19 = rw (length-take, length-drop, length-set) (omega arith) in
+    rw (c.fill.ensures.after (search rules), n) (filled a.b.now a.m.wiring.read (omega arith))

@@ -10,5 +10,5 @@ pub returns : goal.returns
 unfolding joined word_bytes
 returns c =
     let a = c.args in
-    rw (c.put_byte.ensures, c.put_long-3.ensures, c.put_long-2.ensures, c.put_long.ensures)
+    rw (c.put_at-4.ensures, c.put_at-3.ensures, c.put_at-2.ensures, c.put_at.ensures)
     (lay_put (word_bytes 4 a.s.high ∷ word_bytes 4 a.s.middle ∷ word_bytes 4 a.s.low ∷ (a.s.selected ∷ []) ∷ []) a.b.now 12 (omega arith))

@@ -11,5 +11,6 @@ pub returns : goal.returns
 unfolding joined word_bytes
 returns c =
     let a = c.args in
-    rw (c.put_drive.ensures, c.put_byte.ensures)
+    let lent = (rw c.unwrap-record.ensures at c.as_mut_array.ensures.cases).same in
+    rw (c.put_drive.ensures, c.put_at.ensures, lent)
     (lay_put ((a.ended ∷ []) ∷ drive_bytes a.d ∷ []) a.b.now 31 (omega arith))

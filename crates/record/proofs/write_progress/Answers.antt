@@ -11,4 +11,4 @@ returns-then-m-eq0 c =
 pub returns-else-m-eq0 : goal.returns-else-m-eq0
 unfolding progressed
 returns-else-m-eq0 c =
-    rw (c.put_short.ensures, c.put_place.ensures, ne_eqb _ 0 c.if-m-eq0.false)
+    rw (c.put_at.ensures, c.put_place.ensures, ne_eqb _ 0 c.if-m-eq0.false)

@@ -1,5 +1,0 @@
--- `record::read_setup` meets its contract. Assumes nothing.
-use Rattle.record.proofs.read_setup.Goals as goal
-
-pub returns : goal.returns
-returns c = rw (c.byte_at-4.ensures, c.byte_at-3.ensures, c.byte_at-2.ensures, c.byte_at.ensures)
