@@ -1,10 +1,10 @@
 -- Where a field stands, the line has not ended yet, so the place after it is within the line; and the last field ends the
 -- fields. Assumes nothing.
-use Rattle.std.specs.Prelude.{Some, None}
+use Rattle.std.specs.Prelude.{is_some, Some, None}
 use Prim.Native.Char.{code}
 use mathlib.Core.Path.{◌≡◌, refl, sym, ap, ◌∙◌}
 use mathlib.Core.List.{List, [], ◌∷◌}
-use mathlib.Core.Bool.{Bool, true, false, ◌&&◌, and-true, and_assoc}
+use mathlib.Core.Bool.{Bool, true, false, ◌&&◌, and-true, and_assoc, cond, false≢true}
 use Prim.Native.Nat.{ℕ, zero, suc, ◌+◌, ◌-◌, ◌<◌, ◌≤◌}
 use native.Mathlib.Omega.{arith}
 use lib.Dec.{leb, eqb}
@@ -94,6 +94,15 @@ text_alike (b ∷ t) (a ∷ s) h d = rw (eq-eqb a b (d zero (omega arith))) (tex
 pub text_missing : (s t : List ℕ) (at k : ℕ) → k < length t → length s ≤ at + k → same (take (length t) (drop at s)) t ≡ false
 text_missing s t at k h l = text_short t (drop at s) (omega (arith, length-drop at s))
 
+pub text_within : (s t : List ℕ) (at : ℕ) → 1 ≤ length t → same (take (length t) (drop at s)) t ≡ true → at + length t ≤ length s
+text_within s t at h e = go (leb (at + length t) (length s)) refl
+  where
+    go : (b : Bool) → leb (at + length t) (length s) ≡ b → at + length t ≤ length s
+    go true q = leb-true (at + length t) (length s) q
+    go false q =
+        let k : length t - 1 < length t = omega arith in
+        absurd (false≢true (sym (text_missing s t at (length t - 1) k (omega (arith, leb-false (at + length t) (length s) q))) ∙ e))
+
 pub text_differs : (s t : List ℕ) (at k : ℕ) → k < length t → at + k < length s → (get_or s (at + k) 0 ≡ get_or t k 0 → ⊥)
     → same (take (length t) (drop at s)) t ≡ false
 text_differs s t at k h l d = text_other t (drop at s) k h (omega (arith, length-drop at s)) (λ e. d (sym (get_or-drop at s k 0) ∙ e))
@@ -137,3 +146,12 @@ pub three_read : (a b c : ℕ) (f : Fields) (s : List ℕ) (at : ℕ) → 0 < a 
 unfolding read_three
 three_read a b c f s at p q r =
     rw (three_stand a b c (drop at s) p q r, get_or-drop at s 0 0, get_or-drop at s 1 0, get_or-drop at s 2 0, add-zero at)
+
+-- Where something is there by a test, the test holds; where it is not, it does not.
+pub some_if : {A : Type 0} (t : Bool) (x y : A) → cond t (Some x) None ≡ Some y → (t ≡ true) × (x ≡ y)
+some_if true x y e = (refl, cc)
+some_if false x y e = absurd (false≢true (ap is_some e))
+
+pub none_if : {A : Type 0} (t : Bool) (x : A) → cond t (Some x) None ≡ None → t ≡ false
+none_if true x e = absurd (false≢true (sym (ap is_some e)))
+none_if false x e = refl

@@ -37,12 +37,14 @@ fn digit_byte(n: u32) -> u8
 pub fn digits_at(s: &[u8], at: usize) -> usize
     ensures { result ≡ digits_at_front (drop at s.now) }
 {
+    let mut end = at;
     for i in at..s.len() {
         if !is_digit(s[i]) {
             return i - at;
         }
+        end = i + 1;
     }
-    s.len().saturating_sub(at)
+    end - at
 }
 
 // A number by its digits, if there are any.
@@ -61,6 +63,7 @@ pub fn number_at(s: &[u8], at: usize) -> Option<Digits>
     ensures { result ≡ number_at_front (drop at s.now) }
 {
     let mut value: u64 = 0;
+    let mut end = at;
     for i in at..s.len() {
         let b = s[i];
         if !is_digit(b) {
@@ -70,8 +73,9 @@ pub fn number_at(s: &[u8], at: usize) -> Option<Digits>
             return None;
         }
         value = 10 * value + digit_value(b);
+        end = i + 1;
     }
-    number_of(value, s.len().saturating_sub(at))
+    number_of(value, end - at)
 }
 
 // The first of 10, 100, .. that is above n says how many digits n has.

@@ -1,20 +1,17 @@
 -- `line::field_reading::four_at` meets its contract. Assumes nothing.
-use native.Mathlib.Omega.{arith}
+use Rattle.std.proofs.Common.{arith}
 use borrow.Author.Tests.{le-leb, lt-leb}
 use Rattle.line.proofs.ReadLaws.{four_there}
-use Rattle.line.specs.Shapes.{read_four}
 use Rattle.line.proofs.field_reading.four_at.Goals as goal
 
-pub four_digits-first-requires : goal.four_digits-first-requires
-four_digits-first-requires c = four_there c.args.s.now c.args.at (omega (arith, c.digits_at.ensures))
+pub four_digits-requires : goal.four_digits-requires
+four_digits-requires c = four_there c.args.s.now c.args.at (omega (arith, c.digits_at.ensures))
 
 pub overflow_add-result : goal.overflow_add-result
 overflow_add-result c = omega (arith, four_there c.args.s.now c.args.at (omega (arith, c.digits_at.ensures)))
 
 pub returns-then-digits_at-ge4 : goal.returns-then-digits_at-ge4
-unfolding read_four
-returns-then-digits_at-ge4 c = rw (← c.digits_at.ensures, le-leb _ _ c.if-digits_at-ge4.true, c.four_digits-first.ensures)
+returns-then-digits_at-ge4 c = rw (← c.digits_at.ensures, le-leb _ _ c.if-digits_at-ge4.true, c.four_digits.ensures)
 
 pub returns-else-digits_at-ge4 : goal.returns-else-digits_at-ge4
-unfolding read_four
 returns-else-digits_at-ge4 c = rw (← c.digits_at.ensures, lt-leb _ _ c.if-digits_at-ge4.false)

@@ -7,10 +7,9 @@ use Rattle.line.proofs.field_reading.number_from.Goals as goal
 
 pub returns-in_err-n : goal.returns-in_err-n
 unfolding read_number
-returns-in_err-n c =
-    let none : c.from_residual.result ≡ None = search rules in
-    let n : c.number_at.result ≡ None = search rules in
-    rw (none, ← c.number_at.ensures, n)
+returns-in_err-n c = λ f.
+    let n : c.number_at.result ≡ None = c.in_err-n.was in
+    rw (c.from_residual.ensures, ← c.number_at.ensures, n)
 
 pub overflow_add-result : goal.overflow_add-result
 overflow_add-result c =
@@ -20,6 +19,6 @@ overflow_add-result c =
 
 pub returns : goal.returns
 unfolding read_number
-returns c =
-    let n : c.number_at.result ≡ Some c.in_ok-n.n = search rules in
+returns c = λ f.
+    let n : c.number_at.result ≡ Some c.in_ok-n.n = c.in_ok-n.was in
     rw (← c.number_at.ensures, n)

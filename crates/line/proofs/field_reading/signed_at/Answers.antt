@@ -1,5 +1,5 @@
 -- `line::field_reading::signed_at` meets its contract. Assumes nothing.
-use Rattle.std.proofs.Common.{arith, rules, refl, ◌≡◌, ◌≤◌, ℕ, ◌+◌, List, Bool, true, false, ◌||◌, length, None}
+use Rattle.std.proofs.Common.{◌∙◌, arith, rules, refl, ◌≡◌, ◌≤◌, ℕ, ◌+◌, List, Bool, true, false, ◌||◌, length}
 use Prim.Native.Char.{code}
 use mathlib.Core.Bool.{cond}
 use lib.Dec.{eqb}
@@ -27,20 +27,19 @@ signed f s at t h = go (eqb (byte_at s at) (code "-")) (eqb (byte_at s at) (code
 
 pub returns-in_err-b : goal.returns-in_err-b
 unfolding read_signed read_number number_at_front digits_at_front
-returns-in_err-b c =
+returns-in_err-b c = λ f.
     let a = c.args in
-    let none : c.from_residual.result ≡ None = search rules in
     let past : length a.s.now ≤ a.at = search rules in
-    rw (none, byte_past a.s.now a.at past, drop_of_length-le a.s.now {i = a.at} past)
+    rw (c.from_residual.ensures, byte_past a.s.now a.at past, drop_of_length-le a.s.now {i = a.at} past)
 
 pub returns-then-minus-b : goal.returns-then-minus-b
-returns-then-minus-b c =
+returns-then-minus-b c = λ f.
     let a = c.args in
     let b : byte_at a.s.now a.at ≡ c.in_ok-b.field-0.now = search rules in
-    rw (c.number_from.ensures, ← b) (signed a.f a.s.now a.at true (rw b c.if-minus-b.true))
+    c.number_from.ensures f ∙ rw (← b) (signed f a.s.now a.at true (rw b c.if-minus-b.true))
 
 pub returns-else-minus-b : goal.returns-else-minus-b
-returns-else-minus-b c =
+returns-else-minus-b c = λ f.
     let a = c.args in
     let b : byte_at a.s.now a.at ≡ c.in_ok-b.field-0.now = search rules in
-    rw c.number_from-else-minus-b.ensures (signed a.f a.s.now a.at false (rw b c.if-minus-b.false))
+    c.number_from-else-minus-b.ensures f ∙ signed f a.s.now a.at false (rw b c.if-minus-b.false)

@@ -11,7 +11,7 @@ unfolding value_from
 loop-i-init c =
     let at = c.args.at in
     let z : at - at ≡ 0 = omega arith in
-    (omega arith, omega arith, omega arith, rw z (omega arith, refl))
+    (omega arith, omega arith, refl, rw z (omega arith, refl))
 
 pub returns-then-not-is_digit : goal.returns-then-not-is_digit
 returns-then-not-is_digit c =
@@ -41,12 +41,11 @@ loop-i-preserved c =
     let l = c.loop-i in
     let s = c.args.s.now in
     let d : is_digit (get_or s l.i 0) ≡ true = sym c.is_digit.ensures ∙ c.if-not-is_digit.false in
-    (omega (arith, digits_more s l.i (omega arith) d), omega arith, omega arith, rw c.digit_value.ensures (worth_more s c.args.at l.i l.value (omega arith) (omega arith) d l.invariant.3))
+    (omega (arith, digits_more s l.i (omega arith) d), omega arith, refl, rw c.digit_value.ensures (worth_more s c.args.at l.i l.value (omega arith) (omega arith) d l.invariant.3))
 
 pub returns : goal.returns
 returns c =
     let l = c.loop-i in
     let s = c.args.s.now in
-    let all : c.saturating_sub.result ≡ l.i - c.args.at = omega (arith, c.saturating_sub.ensures) in
     let none = digits_past s l.i (omega arith) in
-    rw (c.number_of-2.ensures, all) (number_counted (drop c.args.at s) l.value (l.i - c.args.at) (omega (arith, none)) l.invariant.1 l.invariant.3.1)
+    rw (c.number_of-2.ensures, l.invariant.2) (number_counted (drop c.args.at s) l.value (l.i - c.args.at) (omega (arith, none)) l.invariant.1 l.invariant.3.1)
