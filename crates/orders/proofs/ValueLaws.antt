@@ -1,16 +1,13 @@
 -- What a value in its range is bounded by. Assumes nothing.
 use mathlib.Core.Path.{◌≡◌}
 use mathlib.Core.Bool.{true, ◌&&◌}
-use Prim.Native.Nat.{ℕ, ◌≤◌}
+use Prim.Native.Nat.{◌≤◌}
 use borrow.Author.Tests.{leb-true}
 use Rattle.motor.proofs.SoundLaws.{and_l, and_r}
 use lib.Dec.{leb}
-use Rattle.motor.specs.Sound.{is_speed}
 use Rattle.line.specs.declared.Written.{Written}
 use Rattle.line.specs.declared.Four.{Four}
-use Rattle.line.specs.declared.Setting.{Setting}
-use Rattle.line.specs.declared.Setting.TheVariants.{SetSwitches}
-use Rattle.orders.specs.Values.{signed_in_range, binary_digits, setting_in_range}
+use Rattle.orders.specs.Values.{signed_in_range, binary_digits}
 
 pub signed_bound : (w : Written) → signed_in_range w ≡ true → w.digits ≤ 2147483647
 signed_bound w e = leb-true w.digits 2147483647 e

@@ -42,14 +42,14 @@ fn signed_in_range(w: Written) -> bool
 fn speed_in_range(v: u64) -> bool
     ensures { result ≡ is_speed v }
 {
-    (1 <= v) & (v <= 5000000)
+    1 <= v && v <= 5000000
 }
 
 // Whether four digits are 0 or 1 each.
 fn binary_digits(q: Four) -> bool
     ensures { result ≡ binary_digits q }
 {
-    (q.a <= 1) & (q.b <= 1) & (q.c <= 1) & (q.d <= 1)
+    q.a <= 1 && q.b <= 1 && q.c <= 1 && q.d <= 1
 }
 
 // The SETMT digits as they were written. It is no `From`: an impl stands with one of its types, and neither is this crate's.
@@ -82,7 +82,7 @@ fn setting_in_range(s: Setting) -> bool
         Setting::Preset(w) | Setting::SetCwLimit(w) | Setting::SetCcwLimit(w) => signed_in_range(w),
         Setting::Select(_) => true,
         Setting::SetSpeed(_, v) => speed_in_range(v),
-        Setting::SetSwitches(q, r) => binary_digits(q) & binary_digits(r),
+        Setting::SetSwitches(q, r) => binary_digits(q) && binary_digits(r),
         Setting::SetMotor(q) => setup_in_range(setup_written(q)),
     }
 }

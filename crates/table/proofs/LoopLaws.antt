@@ -2,13 +2,13 @@
 use mathlib.Core.Path.{◌≡◌, refl, sym, ◌∙◌}
 use mathlib.Core.List.{List, [], ◌∷◌, ◌++◌}
 use mathlib.Core.Bool.{Bool, true, false, ◌&&◌, not, cond, false≢true}
-use Prim.Native.Nat.{ℕ, ◌+◌, ◌*◌, ◌<◌}
+use Prim.Native.Nat.{ℕ, zero, suc, ◌+◌, ◌*◌, ◌<◌}
+use native.Mathlib.Nat.{add-zero, add-suc}
 use native.Mathlib.Numerals.{add-one}
 use native.Mathlib.Omega.{arith}
 use lib.ListN.{length, drop, replicate, length-append}
 use lib.Dec.{eqb}
 use lib.Seq.{drop-drop}
-use Rattle.std.specs.List.{list_all, range_with_len}
 use borrow.Author.Tests.{eqb-true, eqb-false, eq-eqb}
 use Rattle.digits.specs.Bytes.{part, put, every, gather, all_zero}
 use Rattle.digits.specs.Words.{word, is_set}
@@ -19,10 +19,11 @@ use Rattle.record.specs.Record.{record_of, fresh_motor}
 use Rattle.record.proofs.RoundTrip.{record_length}
 use Rattle.motor.specs.Sound.{busy, sound_under}
 use Rattle.motor.specs.Judged.{sound_listed}
-use Rattle.motor.proofs.SoundLaws.{and_l, and_r}
+use Rattle.motor.proofs.SoundLaws.{and_l, and_r, both_ways}
 use Rattle.table.specs.Layout.{table_size, head_bytes, head_used, head_rest, fresh_head, record_at, records, motor_at, busy_set, with_record, fresh_table}
 use Rattle.table.proofs.SealLaws.{set_at}
 use Rattle.table.proofs.PieceLaws.{every_each, each_every, gather_length}
+use Rattle.std.specs.List.{list_all, range_with_len}
 
 none_zero : (t : List ℕ) → all_zero (part t 64 0) ≡ true
 unfolding all_zero part
@@ -43,44 +44,61 @@ busy_listed : (b : Bool) → cond b b (not b) ≡ true
 busy_listed true = refl
 busy_listed false = refl
 
--- All sixteen records are right, as pause and the set w tell of each, where all are sound and the set is that of the busy channels.
+-- the first k records are sound, where pause is on or off, and the set w has just those that are busy
+unfoldable pub right_to : Bool → ℕ → List ℕ → ℕ → Bool
+right_to paused w t zero = true
+right_to paused w t (suc k) = right_to paused w t k && sound_listed paused (is_set k w) (record_at t k)
+
 module _ (paused : Bool) (w : ℕ) (t : List ℕ) where
-  abbrev pub right : ℕ → Bool
-  right c = sound_listed paused (is_set c w) (record_at t c)
+  pub right_none : right_to paused w t 0 ≡ true
+  unfolding right_to
+  right_none = refl
 
-  abbrev pub all_sound : Bool
-  all_sound = every (sound_under paused) (records t) && eqb w (busy_set t)
+  pub right_next : (k : ℕ) → right_to paused w t (k + 1) ≡ (right_to paused w t k && sound_listed paused (is_set k w) (record_at t k))
+  unfolding right_to
+  right_next k = rw (add-one k)
 
-  pub right_more : (k : ℕ) → ((c : ℕ) → c < k → right c ≡ true) → right k ≡ true → (c : ℕ) → c < k + 1 → right c ≡ true
-  right_more k before e c h = go (eqb c k) refl
+  -- Where one of the first k is not right, no more of them are.
+  pub right_fails : (k n : ℕ) → right_to paused w t k ≡ false → right_to paused w t (k + n) ≡ false
+  right_fails k zero e = rw (add-zero k) e
+  right_fails k (suc n) e = rw (add-suc k n, ← add-one (k + n), right_next (k + n), right_fails k n e)
+
+  -- Each of them, and all of them.
+  right_each : (k c : ℕ) → c < k → right_to paused w t k ≡ true → sound_listed paused (is_set c w) (record_at t c) ≡ true
+  unfolding right_to
+  right_each zero c h e = absurd (omega arith)
+  right_each (suc k) c h e = go (eqb c k) refl (λ l. right_each k c l (and_l (right_to paused w t k) _ e))
     where
-      go : (f : Bool) → eqb c k ≡ f → right c ≡ true
-      go true q = rw (eqb-true c k q) e
-      go false q = before c (omega (arith, eqb-false c k q))
+      go : (f : Bool) → eqb c k ≡ f → (c < k → sound_listed paused (is_set c w) (record_at t c) ≡ true) → sound_listed paused (is_set c w) (record_at t c) ≡ true
+      go true q before = rw (eqb-true c k q) (and_r (right_to paused w t k) _ e)
+      go false q before = before (omega (arith, eqb-false c k q))
 
-  pub right_all : w < 65536 → ((c : ℕ) → c < 16 → right c ≡ true) → all_sound ≡ true
+  each_right : (k : ℕ) → ((c : ℕ) → c < k → sound_listed paused (is_set c w) (record_at t c) ≡ true) → right_to paused w t k ≡ true
+  unfolding right_to
+  each_right zero all = refl
+  each_right (suc k) all = rw (each_right k (λ c h. all c (omega arith)), all k (omega arith))
+
+  -- All sixteen are right where all records are sound and the set is that of the busy channels.
+  pub right_all : w < 65536 → right_to paused w t 16 ≡ (every (sound_under paused) (records t) && eqb w (busy_set t))
   unfolding part motor_at busy_set
-  right_all below at =
-      let all : every (sound_under paused) (records t) ≡ true =
-      each_every (sound_under paused) 64 16 (drop 64 t) (λ c h. rw (drop-drop (64 * c) 64 t) (and_l (sound_under paused (record_at t c)) _ (at c h))) in
-      let set : w ≡ busy_set t =
-      bits_unique (λ c. busy (motor_at t c)) 16 w below (λ c h. listed_busy (is_set c w) (busy (motor_at t c)) (and_r (sound_under paused (record_at t c)) _ (at c h))) in
-      rw all (eq-eqb w (busy_set t) set)
-
-  right_each : all_sound ≡ true → (c : ℕ) → c < 16 → right c ≡ true
-  unfolding part motor_at busy_set
-  right_each e c h =
-      let all : every (sound_under paused) (records t) ≡ true = and_l (every (sound_under paused) (records t)) _ e in
-      let set : w ≡ busy_set t = eqb-true w (busy_set t) (and_r (every (sound_under paused) (records t)) _ e) in
-      let under : sound_under paused (record_at t c) ≡ true = rw (drop-drop (64 * c) 64 t) at (every_each (sound_under paused) 64 16 (drop 64 t) c all h) in
-      rw (under, set, set_at t c (omega arith)) (busy_listed (busy (motor_at t c)))
-
-  pub one_wrong : (c : ℕ) → c < 16 → right c ≡ false → all_sound ≡ false
-  one_wrong c h e = go all_sound refl
+  right_all below = both_ways _ _ there back
     where
-      go : (f : Bool) → all_sound ≡ f → all_sound ≡ false
-      go true q = absurd (false≢true (sym e ∙ right_each q c h))
-      go false q = q
+      there : right_to paused w t 16 ≡ true → (every (sound_under paused) (records t) && eqb w (busy_set t)) ≡ true
+      there e =
+          let at : (c : ℕ) → c < 16 → sound_listed paused (is_set c w) (record_at t c) ≡ true = λ c h. right_each 16 c h e in
+          let all : every (sound_under paused) (records t) ≡ true =
+          each_every (sound_under paused) 64 16 (drop 64 t) (λ c h. rw (drop-drop (64 * c) 64 t) (and_l (sound_under paused (record_at t c)) _ (at c h))) in
+          let set : w ≡ busy_set t =
+          bits_unique (λ c. busy (motor_at t c)) 16 w below (λ c h. listed_busy (is_set c w) (busy (motor_at t c)) (and_r (sound_under paused (record_at t c)) _ (at c h))) in
+          rw all (eq-eqb w (busy_set t) set)
+
+      back : (every (sound_under paused) (records t) && eqb w (busy_set t)) ≡ true → right_to paused w t 16 ≡ true
+      back e =
+          let all : every (sound_under paused) (records t) ≡ true = and_l (every (sound_under paused) (records t)) _ e in
+          let set : w ≡ busy_set t = eqb-true w (busy_set t) (and_r (every (sound_under paused) (records t)) _ e) in
+          let under : (c : ℕ) → c < 16 → sound_under paused (record_at t c) ≡ true =
+          λ c h. rw (drop-drop (64 * c) 64 t) at (every_each (sound_under paused) 64 16 (drop 64 t) c all h) in
+          each_right 16 (λ c h. rw (under c h, set, set_at t c (omega arith)) (busy_listed (busy (motor_at t c))))
 
 -- the first k records made fresh
 unfoldable pub fresh_to : List ℕ → ℕ → List ℕ

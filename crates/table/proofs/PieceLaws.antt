@@ -79,12 +79,6 @@ pub put_lent : (t b : List ℕ) (a n : ℕ) → length b ≡ n → take a t ++ (
 unfolding put
 put_lent t b a n e = rw (add-sub_cancel_left, drop-drop, e)
 
--- The same where what is written is made of what stood there.
-pub put_made : (t : List ℕ) (f : List ℕ → List ℕ) (a n : ℕ) → length (f (part t a n)) ≡ n
-    → take a t ++ (f (take (a + n - a) (drop a t)) ++ drop (a + n - a) (drop a t)) ≡ put t a (f (part t a n))
-unfolding part
-put_made t f a n e = rw (← put_lent t (f (take n (drop a t))) a n e, add-sub_cancel_left)
-
 -- A part written back where it stands leaves the buffer as it is.
 pub put_back : (t : List ℕ) (at n : ℕ) → at + n ≤ length t → put t at (part t at n) ≡ t
 unfolding put part

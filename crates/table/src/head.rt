@@ -9,7 +9,7 @@ ghost use Rattle.table.specs.Sound.{sound_head};
 
 use crate::Table;
 use digits::sets::count;
-use digits::words::{byte_at, short_at, wide_at};
+use digits::words::Word;
 
 // The mode: 0 local, 1 remote. All-reply: 0 off, 1 on. The error flags: 0 to 15. Pause: 0 off, 1 on. The busy set: bit c for channel c. The
 // card: 0 sixteen motors, 1 four.
@@ -29,12 +29,12 @@ pub fn read_head(t: &Table) -> Head
     ensures { result ≡ head_of t.now }
 {
     Head {
-        mode: byte_at(t, 0),
-        reply: byte_at(t, 1),
-        errors: byte_at(t, 2),
-        pause: byte_at(t, 3),
-        busy: short_at(t, 4),
-        card: byte_at(t, 6),
+        mode: Word::read_at(t, 0),
+        reply: Word::read_at(t, 1),
+        errors: Word::read_at(t, 2),
+        pause: Word::read_at(t, 3),
+        busy: Word::read_at(t, 4),
+        card: Word::read_at(t, 6),
     }
 }
 
@@ -113,14 +113,14 @@ fn is_few(card: u8, set: u16) -> bool
 fn fields_in_range(h: Head) -> bool
     ensures { result ≡ (leb h.mode 1 && leb h.reply 1 && leb h.errors 15 && leb h.pause 1 && leb h.card 1) }
 {
-    (h.mode <= 1) & (h.reply <= 1) & (h.errors <= 15) & (h.pause <= 1) & (h.card <= 1)
+    h.mode <= 1 && h.reply <= 1 && h.errors <= 15 && h.pause <= 1 && h.card <= 1
 }
 
 // Whether the bytes of the head that no field has, 7 to 63, are zero: one, and words of eight bytes after it.
 fn head_zero(t: &Table) -> bool
     ensures { result ≡ all_zero (part t.now head_used head_rest) }
 {
-    byte_at(t, 7) == 0 && (1..8).all(|k| wide_at(t, 8 * k) == 0)
+    u8::read_at(t, 7) == 0 && (1..8).all(|k| u64::read_at(t, 8 * k) == 0)
 }
 
 // Whether a head is sound; what has to be counted comes last.

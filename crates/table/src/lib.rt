@@ -27,7 +27,8 @@ use record::{
     write_motor, write_progress,
 };
 
-// The bytes of a table, as many as document 01 gives it.
+// The bytes of a table. It is no struct that keeps them sound: between the write of a record and its mark they are not. A channel of it is
+// a number with `c ≤ 15` beside: public functions take it so, and a type of its own would ask more of their callers.
 pub type Table = [u8; 1088];
 
 // Where the record of a channel starts.

@@ -49,14 +49,8 @@ pub counts_all : (t p : List ℕ) → length p ≡ 64 → put p 0 (counts_to 16 
 counts_all t p e = put_whole p (counts_to 16 t) (counts_length 16 t ∙ sym e)
 
 -- What the sizes that a call tests are, one by one.
-pub sizes_reply : (t reply : List ℕ) → (eqb (length t) table_size && leb 32 (length reply)) ≡ true → 32 ≤ length reply
-sizes_reply t reply e = leb-true 32 (length reply) (and_r (eqb (length t) table_size) (leb 32 (length reply)) e)
-
 pub sizes_card : (t : List ℕ) (card : ℕ) → (eqb (length t) table_size && leb card 1) ≡ true → (length t ≡ table_size) × (card ≤ 1)
 sizes_card t card e = (eqb-true (length t) table_size (and_l (eqb (length t) table_size) (leb card 1) e), leb-true card 1 (and_r (eqb (length t) table_size) (leb card 1) e))
-
-pub sizes_pulses : (t pulses : List ℕ) → (eqb (length t) table_size && eqb (length pulses) 64) ≡ true → length pulses ≡ 64
-sizes_pulses t pulses e = eqb-true (length pulses) 64 (and_r (eqb (length t) table_size) (eqb (length pulses) 64) e)
 
 pub sizes_channel : (t : List ℕ) (c n : ℕ) → (eqb (length t) table_size && leb c 15 && leb n 7) ≡ true → (c ≤ 15) × (n ≤ 7)
 sizes_channel t c n e =

@@ -18,7 +18,8 @@ use reader::read_line;
 use table::{Table, change_motor, make_fresh, sound_table};
 use ticking::tick_all;
 
-// The numbers that need no line: done, a wrong size or number, and a table that is not sound.
+// The numbers that need no line, as the C interface has them: done, a wrong size or number, and a table that is not sound. Each call
+// refuses by itself: what a slice ends as that is lent on in a `Result` no clause says.
 const DONE: u32 = 0;
 
 const WRONG_SIZE: u32 = 5;

@@ -12,7 +12,7 @@ ghost use Rattle.table.specs.Sound.{sound_table};
 ghost use Rattle.urqolina.specs.Calls.{counts};
 
 use digits::places::count_of;
-use digits::words::{put_long, zero_front};
+use digits::words::{Word, zero_front};
 use pulses::tick;
 use record::Motor;
 use table::head::read_head;
@@ -43,11 +43,7 @@ fn drive_channel(t: &mut Table, pulses: &mut Pulses, c: u8)
     let after = tick(m);
     let motor = after.motor;
     put_ticked(t, c, motor);
-    put_long(
-        pulses,
-        4 * (c as usize),
-        count_of(m.drive.going, after.pulses),
-    );
+    count_of(m.drive.going, after.pulses).put_at(pulses, 4 * (c as usize));
 }
 
 // Ticks a channel whose count is 0 so far. The record of one that the busy set has not is not looked at. A motor that is held gets no

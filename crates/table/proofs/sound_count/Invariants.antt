@@ -2,9 +2,9 @@
 -- Assumes nothing.
 use mathlib.Core.Path.{◌≡◌}
 use mathlib.Core.Bool.{true}
-use Prim.Native.Nat.{ℕ, ◌/◌, ◌^◌, ◌<◌}
-use Rattle.table.proofs.LoopLaws.{right}
+use Prim.Native.Nat.{◌/◌, ◌^◌}
+use Rattle.table.proofs.LoopLaws.{right_to}
 use Rattle.table.proofs.sound_count.Given as goal
 
 abbrev pub invariant-loop-judged : goal.invariant-loop-judged
-invariant-loop-judged l = (l.left ≡ l.set / 2 ^ l.judged) × ((c : ℕ) → c < l.judged → right l.paused l.set l.t c ≡ true)
+invariant-loop-judged l = (right_to l.paused l.set l.t l.judged ≡ true) × (l.left ≡ l.set / 2 ^ l.judged)

@@ -23,5 +23,5 @@ unfolding tick_count
 returns c =
     record {
       t_after = rw (c.put_ticked.ensures, c.tick-after.ensures, c.motor_at-m.ensures);
-      pulses_after = rw (c.put_long.ensures, c.count_of.ensures, c.tick-after.ensures, c.motor_at-m.ensures);
+      pulses_after = rw (c.put_at.ensures, c.count_of.ensures, c.tick-after.ensures, c.motor_at-m.ensures);
     }
