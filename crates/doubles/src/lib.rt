@@ -8,6 +8,8 @@ ghost use Rattle.std.specs.Float.{binary64};
 ghost use Rattle.std.specs.Float.Ieee.{of_bits};
 ghost use Rattle.doubles.specs.Measures.{measure_of, fraction};
 
+use std::num::{f64_from_bits_with_nan, f64_to_bits_with_nan};
+
 const SIGN: u64 = 0x8000_0000_0000_0000;
 // The weight of the exponent's field, which is also that of the digit before the 52.
 const LEAD: u64 = 0x10_0000_0000_0000;
@@ -19,15 +21,11 @@ pub struct Whole {
     pub size: u64,
 }
 
-// The double of a pattern of bits. The language makes none of a NaN's pattern; all NaN are one.
+// The double of a pattern of bits; of a NaN's pattern the one NaN.
 pub fn double_of(bits: u64) -> f64
     ensures { result ≡ of_bits binary64 bits }
 {
-    if bits % SIGN > 0x7ff0_0000_0000_0000 {
-        f64::NAN
-    } else {
-        f64::from_bits(bits)
-    }
+    f64_from_bits_with_nan(bits)
 }
 
 // A double from 1 up to 2 to the 52: its 53 digits, of which the last `past` stand past the point.
@@ -63,13 +61,9 @@ fn measure_bits(bits: u64) -> Option<Whole>
     }
 }
 
-// What a double is as a whole number; none where it has a fraction, is infinite or is no number. The bits of a NaN can't be read.
+// What a double is as a whole number; none where it has a fraction, is infinite or is no number.
 pub fn measure_of(x: f64) -> Option<Whole>
     ensures { result ≡ measure_of x }
 {
-    if x.is_nan() {
-        None
-    } else {
-        measure_bits(x.to_bits())
-    }
+    measure_bits(f64_to_bits_with_nan(x))
 }
