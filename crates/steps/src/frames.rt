@@ -1,13 +1,14 @@
 // A field of a list, as far as its value is not looked at: "one-byte tag, two-byte length and value, low byte first".
 
 ghost use Rattle.std.specs.Prelude.{◌≡◌, ◌+◌, ◌≤◌, length};
-ghost use Rattle.steps.specs.Fields.{is_cut, value_size, frame_fault, double_at};
+ghost use Rattle.steps.specs.Fields.{is_cut, value_size, frame_at, double_at};
 
-use crate::{CUT_SHORT, TAG_OR_ORDER, WRONG_LENGTH};
+use crate::{Cause, Fault};
 use digits::words::{byte_at, short_at, wide_at};
 use doubles::double_of;
 
 // Whether fewer bytes are left than the field at a place takes.
+#[tactic(auto, using(crate::proofs::FieldLaws::cut_asked), unfolding(crate::specs::Fields::is_cut, crate::specs::Fields::length_at))]
 fn is_cut(list: &[u8], at: usize) -> bool
     requires { at ≤ length list.now }
     ensures { result ≡ is_cut list.now at }
@@ -26,29 +27,29 @@ fn value_size(tag: u8) -> u16
     if tag == 1 { 1 } else { 8 }
 }
 
-// The number that refuses the field at a place where tag a or b is to stand, its value aside; 0 is none.
-pub fn frame_fault(list: &[u8], at: usize, a: u8, b: u8) -> u32
-    ensures { result ≡ frame_fault a b list.now at }
+// The tag of the field at a place where tag a or b is to stand, or what refuses that field, its value aside.
+#[tactic(auto, using(crate::proofs::FieldLaws::neither, crate::proofs::FieldLaws::uncut), unfolding(crate::specs::Fields::frame_fault, crate::specs::Fields::tag_at, crate::specs::Fields::length_at))]
+pub fn frame_at(list: &[u8], at: usize, a: u8, b: u8) -> Result<u8, Fault>
+    ensures { result ≡ frame_at a b list.now at }
 {
     if list.len() <= at {
-        return TAG_OR_ORDER;
+        return Err(Cause::TagOrOrder.at(at));
     }
     if is_cut(list, at) {
-        return CUT_SHORT;
+        return Err(Cause::CutShort.at(at));
     }
     let tag = byte_at(list, at);
-    if (tag == a) | (tag == b) {
-        if short_at(list, at + 1) == value_size(tag) {
-            0
-        } else {
-            WRONG_LENGTH
-        }
-    } else {
-        TAG_OR_ORDER
+    if (tag != a) & (tag != b) {
+        return Err(Cause::TagOrOrder.at(at));
     }
+    if short_at(list, at + 1) != value_size(tag) {
+        return Err(Cause::WrongLength.at(at));
+    }
+    Ok(tag)
 }
 
 // The double of the field at a place.
+#[tactic(auto, unfolding(crate::specs::Fields::double_at))]
 pub fn double_at(list: &[u8], at: usize) -> f64
     requires { at + 11 ≤ length list.now }
     ensures { result ≡ double_at list.now at }
