@@ -96,3 +96,6 @@ fault_parts number offset = simp append_assoc
 pub going_parts : (m : Move) → going_text m ≡ head_text (start_word m.relative) m.channel ++ lined (signed_text m.place)
 unfolding going_text
 going_parts m = simp append_assoc
+
+-- how much of a buffer a line takes
+pub ruleset widths = (wrote_fits, plain_within, place_within, then_within, total_within, setting_within, select_within, speed_within, going_within)

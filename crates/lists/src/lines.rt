@@ -1,5 +1,7 @@
 // The lines of a scan list's steps, each at the front of the part that the caller lends, and the last line.
 
+#![tactic(auto, using(crate::proofs::OutLaws::widths), unfolding(crate::specs::Lines::setting_text, crate::specs::Lines::going_text, crate::specs::Lines::move_text, crate::specs::Lines::wait_text, crate::specs::Lines::total_text, text::specs::Text::bytes))]
+
 ghost use Rattle.std.specs.Prelude.{◌≡◌, [], ◌∷◌, ◌++◌, ◌+◌, ◌<◌, ◌≤◌, T, length};
 ghost use Rattle.std.specs.Float.{binary64};
 ghost use Rattle.std.specs.Float.Ieee.{in_unsigned, to_unsigned};
@@ -13,7 +15,6 @@ use text::hex::hex_digit;
 use text::quoted::write_text;
 
 // A number and a byte after it.
-#[tactic(auto, using(crate::proofs::OutLaws::plain_within))]
 fn write_then(out: &mut [u8], n: u32, b: u8) -> usize
     requires { 11 ≤ length out.old }
     ensures { Wrote out.old out.new (plain_text n ++ (b ∷ [])) result }
@@ -24,7 +25,6 @@ fn write_then(out: &mut [u8], n: u32, b: u8) -> usize
 }
 
 // The position of a place, and the line's end.
-#[tactic(auto, using(crate::proofs::OutLaws::place_within))]
 fn write_place(out: &mut [u8], place: u32) -> usize
     requires { 12 ≤ length out.old }
     ensures { Wrote out.old out.new (lined (signed_text place)) result }
@@ -35,7 +35,6 @@ fn write_place(out: &mut [u8], place: u32) -> usize
 }
 
 // A text, a number after it and the line's end.
-#[tactic(auto, using(crate::proofs::OutLaws::wrote_fits, crate::proofs::OutLaws::total_within), unfolding(crate::specs::Lines::total_text, text::specs::Text::bytes))]
 fn write_numbered(out: &mut [u8], head: &[u8], n: u32) -> usize
     requires { length head.now + 11 ≤ length out.old }
     ensures { Wrote out.old out.new (head.now ++ total_text n) result }
@@ -55,7 +54,6 @@ fn write_head(out: &mut [u8], word: &[u8], channel: u8) -> usize
 }
 
 // The speed of a move, as a setting.
-#[tactic(auto, using(crate::proofs::OutLaws::wrote_fits, crate::proofs::OutLaws::total_within), unfolding(crate::specs::Lines::setting_text, text::specs::Text::bytes))]
 fn write_setting(out: &mut [u8], m: Move) -> usize
     requires { (18 ≤ length out.old) × (m.channel < 16) }
     ensures { Wrote out.old out.new (setting_text m) result }
@@ -75,7 +73,6 @@ fn write_select(out: &mut [u8], m: Move) -> usize
 }
 
 // The word of a start.
-#[tactic(auto, unfolding(text::specs::Text::bytes))]
 fn start_word(relative: bool) -> &'static [u8]
     ensures { result.now ≡ start_word relative }
 {
@@ -83,7 +80,6 @@ fn start_word(relative: bool) -> &'static [u8]
 }
 
 // The start itself.
-#[tactic(auto, using(crate::proofs::OutLaws::wrote_fits), unfolding(crate::specs::Lines::going_text, text::specs::Text::bytes))]
 fn write_going(out: &mut [u8], m: Move) -> usize
     requires { (18 ≤ length out.old) × (m.channel < 16) }
     ensures { Wrote out.old out.new (going_text m) result }
@@ -93,7 +89,6 @@ fn write_going(out: &mut [u8], m: Move) -> usize
 }
 
 // The speed of a move: set, and selected.
-#[tactic(auto, using(crate::proofs::OutLaws::wrote_fits, crate::proofs::OutLaws::setting_within, crate::proofs::OutLaws::select_within))]
 fn write_speed(out: &mut [u8], m: Move) -> usize
     requires { (26 ≤ length out.old) × (m.channel < 16) }
     ensures { Wrote out.old out.new (setting_text m ++ select_text m) result }
@@ -103,7 +98,6 @@ fn write_speed(out: &mut [u8], m: Move) -> usize
 }
 
 // A move.
-#[tactic(auto, using(crate::proofs::OutLaws::wrote_fits, crate::proofs::OutLaws::speed_within, crate::proofs::OutLaws::going_within), unfolding(crate::specs::Lines::move_text))]
 pub fn write_move(out: &mut [u8], m: Move) -> usize
     requires { (44 ≤ length out.old) × (m.channel < 16) }
     ensures { Wrote out.old out.new (move_text m) result }
@@ -113,7 +107,6 @@ pub fn write_move(out: &mut [u8], m: Move) -> usize
 }
 
 // A dwell.
-#[tactic(auto, unfolding(crate::specs::Lines::wait_text, crate::specs::Lines::total_text, text::specs::Text::bytes))]
 pub fn write_wait(out: &mut [u8], n: u32) -> usize
     requires { 13 ≤ length out.old }
     ensures { Wrote out.old out.new (wait_text n) result }
@@ -122,7 +115,6 @@ pub fn write_wait(out: &mut [u8], n: u32) -> usize
 }
 
 // The dwell total, a whole number by then.
-#[tactic(auto, unfolding(crate::specs::Lines::total_text, text::specs::Text::bytes))]
 pub fn write_total(out: &mut [u8], total: f64) -> usize
     requires { (11 ≤ length out.old) × T (in_unsigned binary64 32 total) }
     ensures { Wrote out.old out.new (total_text (to_unsigned 32 total)) result }
@@ -131,7 +123,6 @@ pub fn write_total(out: &mut [u8], total: f64) -> usize
 }
 
 // The number and the offset of what refuses the list.
-#[tactic(auto, using(crate::proofs::OutLaws::wrote_fits, crate::proofs::OutLaws::then_within, crate::proofs::OutLaws::total_within, crate::proofs::OutLaws::fault_parts), unfolding(crate::specs::Lines::total_text, text::specs::Text::bytes))]
 pub fn write_fault(out: &mut [u8], number: u32, offset: usize) -> usize
     requires { (22 ≤ length out.old) × (offset < 4294967296) }
     ensures { Wrote out.old out.new (fault_text number offset) result }

@@ -1,5 +1,7 @@
 // A field of a list, as far as its value is not looked at: "one-byte tag, two-byte length and value, low byte first".
 
+#![tactic(auto, using(crate::proofs::FieldLaws::cut_asked, crate::proofs::FieldLaws::neither), unfolding(crate::specs::Fields::tag_at, crate::specs::Fields::length_at, crate::specs::Fields::is_cut, crate::specs::Fields::frame_fault, crate::specs::Fields::double_at))]
+
 ghost use Rattle.std.specs.Prelude.{◌≡◌, ◌+◌, ◌≤◌, length};
 ghost use Rattle.steps.specs.Fields.{is_cut, value_size, frame_at, double_at};
 
@@ -8,7 +10,6 @@ use digits::words::{byte_at, short_at, wide_at};
 use doubles::double_of;
 
 // Whether fewer bytes are left than the field at a place takes.
-#[tactic(auto, using(crate::proofs::FieldLaws::cut_asked), unfolding(crate::specs::Fields::is_cut, crate::specs::Fields::length_at))]
 fn is_cut(list: &[u8], at: usize) -> bool
     requires { at ≤ length list.now }
     ensures { result ≡ is_cut list.now at }
@@ -28,7 +29,6 @@ fn value_size(tag: u8) -> u16
 }
 
 // The tag of the field at a place where tag a or b is to stand, or what refuses that field, its value aside.
-#[tactic(auto, using(crate::proofs::FieldLaws::neither, crate::proofs::FieldLaws::uncut), unfolding(crate::specs::Fields::frame_fault, crate::specs::Fields::tag_at, crate::specs::Fields::length_at))]
 pub fn frame_at(list: &[u8], at: usize, a: u8, b: u8) -> Result<u8, Fault>
     ensures { result ≡ frame_at a b list.now at }
 {
@@ -49,7 +49,6 @@ pub fn frame_at(list: &[u8], at: usize, a: u8, b: u8) -> Result<u8, Fault>
 }
 
 // The double of the field at a place.
-#[tactic(auto, unfolding(crate::specs::Fields::double_at))]
 pub fn double_at(list: &[u8], at: usize) -> f64
     requires { at + 11 ≤ length list.now }
     ensures { result ≡ double_at list.now at }

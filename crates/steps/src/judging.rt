@@ -1,5 +1,7 @@
 // What a double is worth: "finite, whole and in range".
 
+#![tactic(auto, using(crate::proofs::JudgeLaws::placed, crate::proofs::JudgeLaws::numbered), unfolding(crate::specs::Judging::judged_point, crate::specs::Judging::judged_speed))]
+
 ghost use Rattle.std.specs.Prelude.{◌≡◌, ◌≤◌};
 ghost use Rattle.steps.specs.Judging.{judged_place, judged_number, judged_point, judged_speed};
 
@@ -8,7 +10,6 @@ use digits::places::ORIGIN;
 use doubles::measure_of;
 
 // A position or a distance: its place.
-#[tactic(auto, using(crate::proofs::JudgeLaws::placed))]
 fn judge_place(x: f64) -> Result<u32, Cause>
     ensures { result ≡ judged_place x }
 {
@@ -21,7 +22,6 @@ fn judge_place(x: f64) -> Result<u32, Cause>
 }
 
 // A number from 1 to the most that it may be.
-#[tactic(auto, using(crate::proofs::JudgeLaws::numbered))]
 fn judge_number(x: f64, most: u32) -> Result<u32, Cause>
     requires { most ≤ 5000000 }
     ensures { result ≡ judged_number most x }
@@ -35,7 +35,6 @@ fn judge_number(x: f64, most: u32) -> Result<u32, Cause>
 }
 
 // A set-point, by its own double.
-#[tactic(auto, unfolding(crate::specs::Judging::judged_point))]
 pub fn judge_point(p: SetPoint) -> Result<u32, Cause>
     ensures { result ≡ judged_point p }
 {
@@ -46,7 +45,6 @@ pub fn judge_point(p: SetPoint) -> Result<u32, Cause>
 }
 
 // A speed.
-#[tactic(auto, unfolding(crate::specs::Judging::judged_speed))]
 pub fn judge_speed(x: f64) -> Result<u32, Cause>
     ensures { result ≡ judged_speed x }
 {

@@ -1,5 +1,7 @@
 // The step that stands at a place of a list.
 
+#![tactic(auto, using(crate::proofs::FieldLaws::good_byte, crate::proofs::FieldLaws::good_double, crate::proofs::FieldLaws::good_other, crate::proofs::StepLaws::aim_there), unfolding(crate::specs::Fields::channel_at, crate::specs::Steps::opening_at, crate::specs::Steps::aim_at, crate::specs::Steps::rate_at, crate::specs::Steps::move_at, crate::specs::Steps::step_at, crate::specs::Steps::beyond_at))]
+
 ghost use Rattle.std.specs.Prelude.{◌≡◌, ◌+◌, ◌<◌};
 ghost use Rattle.steps.specs.Judging.{judged_point};
 ghost use Rattle.steps.specs.Steps.{channel_of, dwell_of, opening_at, aim_of, aim_at, rate_at, is_distance, move_at, step_at, beyond_at};
@@ -30,7 +32,6 @@ fn dwell_of(x: f64, at: usize) -> Result<Opening, Fault>
 }
 
 // The first field of a step.
-#[tactic(auto, unfolding(crate::specs::Steps::opening_at, crate::specs::Fields::channel_at))]
 fn opening_at(list: &[u8], at: usize) -> Result<Opening, Fault>
     ensures { result ≡ opening_at list.now at }
 {
@@ -69,7 +70,6 @@ impl SetPoint {
 }
 
 // The field of a target or a distance.
-#[tactic(auto, unfolding(crate::specs::Steps::aim_at))]
 fn aim_at(list: &[u8], at: usize) -> Result<SetPoint, Fault>
     ensures { result ≡ aim_at list.now at }
 {
@@ -78,7 +78,6 @@ fn aim_at(list: &[u8], at: usize) -> Result<SetPoint, Fault>
 }
 
 // The field of a speed.
-#[tactic(auto, unfolding(crate::specs::Steps::rate_at))]
 fn rate_at(list: &[u8], at: usize) -> Result<f64, Fault>
     ensures { result ≡ rate_at list.now at }
 {
@@ -113,7 +112,6 @@ fn judge_move(channel: u8, relative: bool, pair: Pair, at: usize) -> Result<Step
 }
 
 // What follows a channel's field. The else of a `let .. else` binds nothing, so each answer stands in a local.
-#[tactic(auto, unfolding(crate::specs::Steps::move_at))]
 fn move_at(list: &[u8], at: usize, channel: u8) -> Result<Step, Fault>
     ensures { result ≡ move_at list.now at channel }
 {
@@ -133,7 +131,6 @@ fn move_at(list: &[u8], at: usize, channel: u8) -> Result<Step, Fault>
 }
 
 // The step at a place; none where the list ends there.
-#[tactic(auto, unfolding(crate::specs::Steps::step_at))]
 pub fn step_at(list: &[u8], at: usize) -> Result<Option<Step>, Fault>
     ensures { result ≡ step_at list.now at }
 {
@@ -148,7 +145,6 @@ pub fn step_at(list: &[u8], at: usize) -> Result<Option<Step>, Fault>
 }
 
 // What stands at a place after the last step that a list may have: nothing, or what refuses the list.
-#[tactic(auto, unfolding(crate::specs::Steps::beyond_at))]
 pub fn beyond_at(list: &[u8], at: usize) -> Result<(), Fault>
     ensures { result ≡ beyond_at list.now at }
 {
