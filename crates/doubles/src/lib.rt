@@ -29,6 +29,7 @@ pub fn double_of(bits: u64) -> f64
 }
 
 // A double from 1 up to 2 to the 52: its 53 digits, of which the last `past` stand past the point.
+#[tactic(auto, using(crate::proofs::DoubleLaws::shifted, crate::proofs::DoubleLaws::told))]
 fn measure_digits(minus: bool, digits: u64, past: u64) -> Option<Whole>
     requires { (1 ≤ past) × (past ≤ 52) × (digits < 9007199254740992) }
     ensures { result ≡ fraction minus digits (2 ^ past) }
@@ -43,6 +44,7 @@ fn measure_digits(minus: bool, digits: u64, past: u64) -> Option<Whole>
 
 // By the exponent's field: at its highest it is an infinity's or a NaN's, from 1075 on the double is 2 to the 52 at least, and below 1023
 // it is less than 1.
+#[tactic(auto, using(crate::proofs::DoubleLaws::field_top, crate::proofs::DoubleLaws::field_large, crate::proofs::DoubleLaws::field_mixed, crate::proofs::DoubleLaws::field_zero, crate::proofs::DoubleLaws::field_small))]
 fn measure_bits(bits: u64) -> Option<Whole>
     ensures { result ≡ measure_of (of_bits binary64 bits) }
 {

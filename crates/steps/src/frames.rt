@@ -9,6 +9,17 @@ use crate::{Cause, Fault};
 use digits::words::{byte_at, short_at, wide_at};
 use doubles::double_of;
 
+// The tags of a list's fields. They stay bytes, since a list may have any byte in the place of a tag.
+pub const CHANNEL: u8 = 1;
+
+pub const TARGET: u8 = 2;
+
+pub const DISTANCE: u8 = 3;
+
+pub const SPEED: u8 = 4;
+
+pub const DWELL: u8 = 5;
+
 // Whether fewer bytes are left than the field at a place takes.
 fn is_cut(list: &[u8], at: usize) -> bool
     requires { at ≤ length list.now }
@@ -25,7 +36,7 @@ fn is_cut(list: &[u8], at: usize) -> bool
 fn value_size(tag: u8) -> u16
     ensures { result ≡ value_size tag }
 {
-    if tag == 1 { 1 } else { 8 }
+    if tag == CHANNEL { 1 } else { 8 }
 }
 
 // The tag of the field at a place where tag a or b is to stand, or what refuses that field, its value aside.

@@ -7,7 +7,7 @@ ghost use Rattle.steps.specs.Judging.{judged_point};
 ghost use Rattle.steps.specs.Steps.{channel_of, dwell_of, opening_at, aim_of, aim_at, rate_at, is_distance, move_at, step_at, beyond_at};
 ghost use Rattle.steps.specs.Parts.{double_in, unrated, judged_move};
 
-use crate::frames::{double_at, frame_at};
+use crate::frames::{CHANNEL, DISTANCE, DWELL, SPEED, TARGET, double_at, frame_at};
 use crate::judging::{judge_point, judge_speed};
 use crate::{Cause, Fault, Move, Opening, Pair, SetPoint, Step};
 use digits::words::byte_at;
@@ -35,7 +35,7 @@ fn dwell_of(x: f64, at: usize) -> Result<Opening, Fault>
 fn opening_at(list: &[u8], at: usize) -> Result<Opening, Fault>
     ensures { result ≡ opening_at list.now at }
 {
-    if frame_at(list, at, 1, 5)? == 1 {
+    if frame_at(list, at, CHANNEL, DWELL)? == CHANNEL {
         channel_of(byte_at(list, at + 3), at)
     } else {
         dwell_of(double_at(list, at), at)
@@ -73,15 +73,15 @@ impl SetPoint {
 fn aim_at(list: &[u8], at: usize) -> Result<SetPoint, Fault>
     ensures { result ≡ aim_at list.now at }
 {
-    let tag = frame_at(list, at, 2, 3)?;
-    Ok(SetPoint::aim_of(tag == 3, double_at(list, at)))
+    let tag = frame_at(list, at, TARGET, DISTANCE)?;
+    Ok(SetPoint::aim_of(tag == DISTANCE, double_at(list, at)))
 }
 
 // The field of a speed.
 fn rate_at(list: &[u8], at: usize) -> Result<f64, Fault>
     ensures { result ≡ rate_at list.now at }
 {
-    frame_at(list, at, 4, 4)?;
+    frame_at(list, at, SPEED, SPEED)?;
     Ok(double_at(list, at))
 }
 
