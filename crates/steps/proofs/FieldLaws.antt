@@ -1,7 +1,7 @@
 -- What a field without fault has. Assumes nothing.
 use mathlib.Core.Path.{◌≡◌, refl, sym, ◌∙◌}
 use mathlib.Core.List.{List}
-use mathlib.Core.Bool.{Bool, true, false, ◌&&◌, ◌||◌, not, cond, true≢false}
+use mathlib.Core.Bool.{Bool, true, false, ◌||◌, not, cond, true≢false}
 use Prim.Native.Nat.{ℕ, ◌+◌, ◌-◌, ◌≤◌, ◌<◌}
 use native.Mathlib.Omega.{arith}
 use lib.Dec.{ltb, eqb}
@@ -28,11 +28,6 @@ cut_asked n at k h = rw (le-ltb n (at + 3) h) (go (ltb (n - at - 3) k) refl)
     go : (t : Bool) → ltb (n - at - 3) k ≡ t → t ≡ ltb n (at + 3 + k)
     go true e = sym (lt-ltb n (at + 3 + k) (omega (arith, ltb-true (n - at - 3) k e)))
     go false e = sym (le-ltb n (at + 3 + k) (omega (arith, ltb-false (n - at - 3) k e)))
-
--- as the code asks of two tags
-pub neither : (p q : Bool) → (not p && not q) ≡ not (p || q)
-neither true q = refl
-neither false q = refl
 
 -- a field that is good has one of the two tags, and all the bytes of its value
 pub good : (a b : ℕ) (s : List ℕ) (at tag : ℕ) → Ok tag ≡ frame_at a b s at

@@ -1,6 +1,6 @@
 // A field of a list, as far as its value is not looked at: "one-byte tag, two-byte length and value, low byte first".
 
-#![tactic(auto, using(crate::proofs::FieldLaws::cut_asked, crate::proofs::FieldLaws::neither), unfolding(crate::specs::Fields::tag_at, crate::specs::Fields::length_at, crate::specs::Fields::is_cut, crate::specs::Fields::frame_fault, crate::specs::Fields::double_at))]
+#![tactic(auto, using(crate::proofs::FieldLaws::cut_asked), unfolding(crate::specs::Fields::tag_at, crate::specs::Fields::length_at, crate::specs::Fields::is_cut, crate::specs::Fields::frame_fault, crate::specs::Fields::double_at))]
 
 ghost use Rattle.std.specs.Prelude.{◌≡◌, ◌+◌, ◌≤◌, length};
 ghost use Rattle.steps.specs.Fields.{is_cut, value_size, frame_at, double_at};
@@ -26,10 +26,7 @@ fn is_cut(list: &[u8], at: usize) -> bool
     ensures { result ≡ is_cut list.now at }
 {
     let left = list.len() - at;
-    if left < 3 {
-        return true;
-    }
-    left - 3 < short_at(list, at + 1) as usize
+    left < 3 || left - 3 < short_at(list, at + 1) as usize
 }
 
 // How many bytes the value of a tag has.
@@ -50,7 +47,7 @@ pub fn frame_at(list: &[u8], at: usize, a: u8, b: u8) -> Result<u8, Fault>
         return Err(Cause::CutShort.at(at));
     }
     let tag = byte_at(list, at);
-    if (tag != a) & (tag != b) {
+    if tag != a && tag != b {
         return Err(Cause::TagOrOrder.at(at));
     }
     if short_at(list, at + 1) != value_size(tag) {

@@ -27,7 +27,7 @@ fn judge_number(x: f64, most: u32) -> Result<u32, Cause>
     ensures { result ≡ judged_number most x }
 {
     let whole = measure_of(x).ok_or(Cause::NotWhole)?;
-    if (1 <= whole.size) & !whole.minus & (whole.size <= most as u64) {
+    if 1 <= whole.size && !whole.minus && whole.size <= most as u64 {
         Ok(whole.size as u32)
     } else {
         Err(Cause::OutOfRange)

@@ -111,7 +111,8 @@ fn judge_move(channel: u8, relative: bool, pair: Pair, at: usize) -> Result<Step
     }))
 }
 
-// What follows a channel's field. The else of a `let .. else` binds nothing, so each answer stands in a local.
+// What follows a channel's field. Each answer is taken apart by `let .. else` (docs/DECISIONS.md, "Language forms"), whose else binds
+// nothing, so that it stands in a local.
 fn move_at(list: &[u8], at: usize, channel: u8) -> Result<Step, Fault>
     ensures { result ≡ move_at list.now at channel }
 {
