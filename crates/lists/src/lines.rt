@@ -43,7 +43,8 @@ fn write_numbered(out: &mut [u8], head: &[u8], n: u32) -> usize
     k + write_then(&mut out[k..], n, b'\n')
 }
 
-// A word of the script, and the channel that it is of.
+// A word of the script, and the channel that it is of. That it is one of sixteen is asked here and below: the definitions (`sped` of
+// steps) make a Move of any channel, so that Move can't have it as an invariant.
 fn write_head(out: &mut [u8], word: &[u8], channel: u8) -> usize
     requires { (length word.now + 1 ≤ length out.old) × (channel < 16) }
     ensures { Wrote out.old out.new (head_text word.now channel) result }
