@@ -1,16 +1,15 @@
 // The step that stands at a place of a list.
 
-#![tactic(auto, using(crate::proofs::FieldLaws::good_byte, crate::proofs::FieldLaws::good_double, crate::proofs::FieldLaws::good_other, crate::proofs::StepLaws::aim_there), unfolding(crate::specs::Fields::channel_at, crate::specs::Steps::opening_at, crate::specs::Steps::aim_at, crate::specs::Steps::rate_at, crate::specs::Steps::move_at, crate::specs::Steps::step_at, crate::specs::Steps::beyond_at))]
+#![tactic(auto, using(crate::proofs::FieldLaws::good_byte, crate::proofs::FieldLaws::good_double, crate::proofs::FieldLaws::good_other, crate::proofs::StepLaws::aim_there), unfolding(crate::specs::Steps::opening_at, crate::specs::Steps::aim_at, crate::specs::Steps::rate_at, crate::specs::Steps::move_at, crate::specs::Steps::step_at, crate::specs::Steps::beyond_at))]
 
 ghost use Rattle.std.specs.Prelude.{◌≡◌, ◌+◌, ◌<◌};
 ghost use Rattle.steps.specs.Judging.{judged_point};
 ghost use Rattle.steps.specs.Steps.{channel_of, dwell_of, opening_at, aim_of, aim_at, rate_at, is_distance, move_at, step_at, beyond_at};
 ghost use Rattle.steps.specs.Parts.{double_in, unrated, judged_move};
 
-use crate::frames::{CHANNEL, DISTANCE, DWELL, SPEED, TARGET, double_at, frame_at};
+use crate::frames::{CHANNEL, DISTANCE, DWELL, Field, SPEED, TARGET};
 use crate::judging::{judge_point, judge_speed};
 use crate::{Cause, Fault, Move, Opening, Pair, SetPoint, Step};
-use digits::words::byte_at;
 
 // A channel's byte.
 fn channel_of(b: u8, at: usize) -> Result<Opening, Fault>
@@ -32,13 +31,13 @@ fn dwell_of(x: f64, at: usize) -> Result<Opening, Fault>
 }
 
 // The first field of a step.
-fn opening_at(list: &[u8], at: usize) -> Result<Opening, Fault>
-    ensures { result ≡ opening_at list.now at }
+fn opening_at(field: Field) -> Result<Opening, Fault>
+    ensures { result ≡ opening_at field.entry.list.now field.entry.at }
 {
-    if frame_at(list, at, CHANNEL, DWELL)? == CHANNEL {
-        channel_of(byte_at(list, at + 3), at)
+    if field.frame(CHANNEL, DWELL)? == CHANNEL {
+        channel_of(field.channel(), field.at)
     } else {
-        dwell_of(double_at(list, at), at)
+        dwell_of(field.double(), field.at)
     }
 }
 
@@ -70,19 +69,19 @@ impl SetPoint {
 }
 
 // The field of a target or a distance.
-fn aim_at(list: &[u8], at: usize) -> Result<SetPoint, Fault>
-    ensures { result ≡ aim_at list.now at }
+fn aim_at(field: Field) -> Result<SetPoint, Fault>
+    ensures { result ≡ aim_at field.entry.list.now field.entry.at }
 {
-    let tag = frame_at(list, at, TARGET, DISTANCE)?;
-    Ok(SetPoint::aim_of(tag == DISTANCE, double_at(list, at)))
+    let tag = field.frame(TARGET, DISTANCE)?;
+    Ok(SetPoint::aim_of(tag == DISTANCE, field.double()))
 }
 
 // The field of a speed.
-fn rate_at(list: &[u8], at: usize) -> Result<f64, Fault>
-    ensures { result ≡ rate_at list.now at }
+fn rate_at(field: Field) -> Result<f64, Fault>
+    ensures { result ≡ rate_at field.entry.list.now field.entry.at }
 {
-    frame_at(list, at, SPEED, SPEED)?;
-    Ok(double_at(list, at))
+    field.frame(SPEED, SPEED)?;
+    Ok(field.double())
 }
 
 // What refuses a move whose speed's field is refused. "the first fault in the list counts": its target's own fault comes before.
@@ -113,33 +112,34 @@ fn judge_move(channel: u8, relative: bool, pair: Pair, at: usize) -> Result<Step
 
 // What follows a channel's field. Each answer is taken apart by `let .. else` (docs/DECISIONS.md, "Language forms"), whose else binds
 // nothing, so that it stands in a local.
-fn move_at(list: &[u8], at: usize, channel: u8) -> Result<Step, Fault>
-    ensures { result ≡ move_at list.now at channel }
+fn move_at(field: Field, channel: u8) -> Result<Step, Fault>
+    ensures { result ≡ move_at field.entry.list.now field.entry.at channel }
 {
-    let aim = aim_at(list, at);
+    let aim = aim_at(field);
     let Ok(point) = aim else {
         return Err(aim.unwrap_err());
     };
-    let rate = rate_at(list, at + 11);
+    let rate = rate_at(field.after(11));
     let Ok(speed) = rate else {
-        return Err(judge_alone(point, at, rate.unwrap_err()));
+        return Err(judge_alone(point, field.at, rate.unwrap_err()));
     };
     let pair = Pair {
         target: point.double(),
         speed,
     };
-    judge_move(channel, point.is_distance(), pair, at)
+    judge_move(channel, point.is_distance(), pair, field.at)
 }
 
 // The step at a place; none where the list ends there.
 pub fn step_at(list: &[u8], at: usize) -> Result<Option<Step>, Fault>
     ensures { result ≡ step_at list.now at }
 {
-    if list.len() <= at {
+    let field = Field { list, at };
+    if field.is_past() {
         return Ok(None);
     }
-    let step = match opening_at(list, at)? {
-        Opening::Channel(c) => move_at(list, at + 4, c)?,
+    let step = match opening_at(field)? {
+        Opening::Channel(c) => move_at(field.after(4), c)?,
         Opening::Dwelling(x, n) => Step::Wait(x, n),
     };
     Ok(Some(step))
@@ -149,9 +149,10 @@ pub fn step_at(list: &[u8], at: usize) -> Result<Option<Step>, Fault>
 pub fn beyond_at(list: &[u8], at: usize) -> Result<(), Fault>
     ensures { result ≡ beyond_at list.now at }
 {
-    if list.len() <= at {
+    let field = Field { list, at };
+    if field.is_past() {
         return Ok(());
     }
-    opening_at(list, at)?;
+    opening_at(field)?;
     Err(Cause::TooMany.at(at))
 }
