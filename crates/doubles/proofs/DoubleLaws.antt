@@ -11,9 +11,9 @@ use lib.Ieee.{Float, nan, inf, fin, binary64, up, down, odd, of_fields, of_bits}
 use lib.Ieee.Fits.{down_pos}
 use lib.Ieee.Exact.{HasValue, odd_sign}
 use lib.Ieee.Nearest.{div_same}
-use Rattle.doubles.specs.declared.Measure.TheVariants.{Whole, Broken}
+use Rattle.std.specs.Prelude.{None}
 use Rattle.doubles.specs.Doubles.{is_whole, size_of, is_minus}
-use Rattle.doubles.specs.Measures.{largest, measure_of, fraction}
+use Rattle.doubles.specs.Measures.{largest, whole, measure_of, fraction}
 
 -- ---- a fraction may be written in several ways, which are whole together
 
@@ -59,13 +59,13 @@ measured (fin t m e) s a c C h = rw h.0 (fraction_same s (m * up e) (down e) a c
 
 -- ---- by the exponent's field
 
-top : (s b : Bool) → measure_of (cond b (inf s) nan) ≡ Broken
+top : (s b : Bool) → measure_of (cond b (inf s) nan) ≡ None
 unfolding measure_of is_whole
 top s true = refl
 top s false = refl
 
 -- the highest: an infinity, or a NaN
-pub at_top : (s : Bool) (x t : ℕ) → x ≡ 2047 → measure_of (of_fields binary64 s x t) ≡ Broken
+pub at_top : (s : Bool) (x t : ℕ) → x ≡ 2047 → measure_of (of_fields binary64 s x t) ≡ None
 unfolding of_fields
 at_top s zero t h = absurd (omega arith)
 at_top s (suc x) t h = rw (eq-eqb (suc x) 2047 h) (top s (eqb t 0))
@@ -83,13 +83,13 @@ lowest s t = measured (odd 53 s t 0 1074) s (t * 2 ^ 0) (2 ^ 1074) (pow_pos 1074
 -- ---- by the size of the field; q stands for the digits with their leading one
 
 -- 2 to the 52 and more
-large : (s : Bool) (q i : ℕ) → largest ≤ q → fraction s (q * 2 ^ (1074 + i)) (2 ^ 1074) ≡ Whole s largest
+large : (s : Bool) (q i : ℕ) → largest ≤ q → fraction s (q * 2 ^ (1074 + i)) (2 ^ 1074) ≡ whole s largest
 large s q i h =
     let n = q * 2 ^ i in
     let e : q * 2 ^ (1074 + i) * 1 ≡ n * 2 ^ 1074 = mul-one (q * 2 ^ (1074 + i)) ∙ ap (λ (x : ℕ). q * x) (pow-add 2 1074 i ∙ mul_comm (2 ^ 1074) (2 ^ i)) ∙ sym (mul_assoc q (2 ^ i) (2 ^ 1074)) in
     let wide : largest ≤ n = le_trans h (le_trans (le_of_eq (sym (mul-one q))) (mul-le-mul_left q (pow_pos i))) in
     fraction_same s (q * 2 ^ (1074 + i)) (2 ^ 1074) n 1 (pow_pos 1074) (omega arith) e
-    ∙ rw (mod-one n, div-one n) (ap (λ (x : ℕ). Whole s x) (cap n wide))
+    ∙ rw (mod-one n, div-one n) (ap (λ (x : ℕ). whole s x) (cap n wide))
   where
     cap : (n : ℕ) → largest ≤ n → min n largest ≡ largest
     cap n h = omega arith
@@ -101,10 +101,10 @@ mixed s q j k e =
     (mul_assoc q (2 ^ j) (2 ^ k) ∙ ap (λ (x : ℕ). q * x) (sym (pow-add 2 j k) ∙ ap (λ (x : ℕ). 2 ^ x) e))
 
 -- all of them past the point
-small : (s : Bool) (q c : ℕ) → 0 < q → q < c → fraction s q c ≡ Broken
+small : (s : Bool) (q c : ℕ) → 0 < q → q < c → fraction s q c ≡ None
 small s q c P h = rw (mod-eq_of_lt h, ne_eqb q 0 (λ e. omega arith))
 
-nothing : (s : Bool) (c : ℕ) → 0 < c → fraction s 0 c ≡ Whole s 0
+nothing : (s : Bool) (c : ℕ) → 0 < c → fraction s 0 c ≡ whole s 0
 nothing s c C = rw (mod-eq_of_lt C, div-eq_of_lt C)
 
 module _ (b : ℕ) where
@@ -121,13 +121,13 @@ module _ (b : ℕ) where
   unfolding of_bits
   read_as = refl
 
-  pub field_top : field ≡ 2047 → measure_of (of_bits binary64 b) ≡ Broken
+  pub field_top : field ≡ 2047 → measure_of (of_bits binary64 b) ≡ None
   field_top h = rw read_as (at_top sign field digits h)
 
-  pub field_large : 1075 ≤ field → (field ≡ 2047 → ⊥) → measure_of (of_bits binary64 b) ≡ Whole sign largest
+  pub field_large : 1075 ≤ field → (field ≡ 2047 → ⊥) → measure_of (of_bits binary64 b) ≡ whole sign largest
   field_large h n = rw read_as (go field (field - 1075) (omega arith) n)
     where
-      go : (x i : ℕ) → x ≡ suc (1074 + i) → (x ≡ 2047 → ⊥) → measure_of (of_fields binary64 sign x digits) ≡ Whole sign largest
+      go : (x i : ℕ) → x ≡ suc (1074 + i) → (x ≡ 2047 → ⊥) → measure_of (of_fields binary64 sign x digits) ≡ whole sign largest
       go x i e m = rw e (between sign (1074 + i) digits (λ z. m (e ∙ z)) ∙ large sign (2 ^ 52 + digits) i (omega arith))
 
   pub field_mixed : 1023 ≤ field → field < 1075 → measure_of (of_bits binary64 b) ≡ fraction sign (4503599627370496 + digits) (2 ^ (1075 - field))
@@ -136,10 +136,10 @@ module _ (b : ℕ) where
       go : (x j : ℕ) → x ≡ suc j → j < 1074 → measure_of (of_fields binary64 sign x digits) ≡ fraction sign (4503599627370496 + digits) (2 ^ (1075 - x))
       go x j e m = rw e (between sign j digits (λ z. omega arith) ∙ mixed sign (2 ^ 52 + digits) j (1075 - suc j) (omega arith))
 
-  pub field_small : field < 1023 → (b % 9223372036854775808 ≡ 0 → ⊥) → measure_of (of_bits binary64 b) ≡ Broken
+  pub field_small : field < 1023 → (b % 9223372036854775808 ≡ 0 → ⊥) → measure_of (of_bits binary64 b) ≡ None
   field_small h n = rw read_as (go field (omega arith) (λ e. omega arith))
     where
-      go : (x : ℕ) → x < 1023 → (x ≡ 0 → 0 < digits) → measure_of (of_fields binary64 sign x digits) ≡ Broken
+      go : (x : ℕ) → x < 1023 → (x ≡ 0 → 0 < digits) → measure_of (of_fields binary64 sign x digits) ≡ None
       go zero l some =
           let wide : 52 ≤ 1074 = lit≤ tt in
           let few : digits * 1 < 2 ^ 1074 = lt_of_lt_of_le (lt_of_le_of_lt (le_of_eq (mul-one digits)) (mod-lt b (pow_pos 52))) (pow_mono wide) in
@@ -152,7 +152,7 @@ module _ (b : ℕ) where
           ∙ mixed sign (2 ^ 52 + digits) j k (omega arith)
           ∙ small sign (2 ^ 52 + digits) (2 ^ k) (omega arith) (lt_of_lt_of_le few (pow_mono many))
 
-  pub field_zero : b % 9223372036854775808 ≡ 0 → measure_of (of_bits binary64 b) ≡ Whole sign 0
+  pub field_zero : b % 9223372036854775808 ≡ 0 → measure_of (of_bits binary64 b) ≡ whole sign 0
   field_zero h =
       let none : field ≡ 0 = omega arith in
       let empty : digits ≡ 0 = omega arith in
@@ -162,12 +162,6 @@ module _ (b : ℕ) where
 
 pub shifted : (q c : ℕ) → 0 < c → q < 18446744073709551616 → q / c * c % 18446744073709551616 ≡ q → q % c ≡ 0
 shifted q c C h e =
-    let parts : q / c * c + q % c ≡ q = div-add-mod' q c in
-    let kept : q / c * c % 18446744073709551616 ≡ q / c * c = mod-eq_of_lt (omega arith) in
-    omega arith
-
-pub shifted_back : (q c : ℕ) → q < 18446744073709551616 → q % c ≡ 0 → q / c * c % 18446744073709551616 ≡ q
-shifted_back q c h e =
     let parts : q / c * c + q % c ≡ q = div-add-mod' q c in
     let kept : q / c * c % 18446744073709551616 ≡ q / c * c = mod-eq_of_lt (omega arith) in
     omega arith

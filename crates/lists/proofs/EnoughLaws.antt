@@ -13,8 +13,10 @@ use lib.Ieee.{Float, binary64, of_int}
 use borrow.Author.Tests.{leb-true, leb-false}
 use Rattle.digits.specs.Bytes.{AllBytes, part}
 use Rattle.digits.proofs.PartLaws.{part_bytes}
+use Rattle.std.specs.Prelude.{Option, None, Some, Result, Ok, Err}
+use Rattle.steps.specs.declared.Fault.{Fault}
 use Rattle.steps.specs.declared.Step.{Step}
-use Rattle.steps.specs.declared.Step.TheVariants.{Last, Drive, Wait}
+use Rattle.steps.specs.declared.Step.TheVariants.{Drive, Wait}
 use Rattle.steps.specs.Steps.{step_at}
 use Rattle.steps.proofs.FrontLaws.{step_front, beyond_front}
 use Rattle.lists.specs.Lines.{opening_text, move_text, wait_text}
@@ -26,11 +28,12 @@ unfolding printed_from
 front_from a b all l zero total at h = ap (last_text as_doubles total) (beyond_front a b all at (omega arith))
 front_from a b all l (suc k) total at h = rw (step_front a b all at (omega arith)) (go (step_at a at) (λ t p q. front_from a b all l k t p q))
   where
-    go : (s : Step) → ((t : Float) (p : ℕ) → p + 26 * k ≤ 260000 → printed_from as_doubles k (a ++ b) t p ≡ printed_from as_doubles k a t p)
+    go : (s : Result (Option Step) Fault) → ((t : Float) (p : ℕ) → p + 26 * k ≤ 260000 → printed_from as_doubles k (a ++ b) t p ≡ printed_from as_doubles k a t p)
         → printed_by as_doubles (printed_from as_doubles k (a ++ b)) total at s ≡ printed_by as_doubles (printed_from as_doubles k a) total at s
-    go (Last e) rest = refl
-    go (Drive m) rest = ap (λ (x : List ℕ). move_text m ++ x) (rest total (at + 26) (omega arith))
-    go (Wait x n) rest = ap (λ (y : List ℕ). wait_text n ++ y) (rest (as_doubles.more total x n) (at + 11) (omega arith))
+    go (Ok None) rest = refl
+    go (Err f) rest = refl
+    go (Ok (Some (Drive m))) rest = ap (λ (x : List ℕ). move_text m ++ x) (rest total (at + 26) (omega arith))
+    go (Ok (Some (Wait x n))) rest = ap (λ (y : List ℕ). wait_text n ++ y) (rest (as_doubles.more total x n) (at + 11) (omega arith))
 
 -- What is printed for a list of bytes is what is printed for its front, if that has so many.
 pub front_enough : (s : List ℕ) (n : ℕ) → AllBytes s → 325538 ≤ n → printed (take n s) ≡ printed s

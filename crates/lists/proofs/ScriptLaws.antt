@@ -32,13 +32,14 @@ use Rattle.orders.specs.Values.{value_in_range}
 use Rattle.jobs.specs.Jobs.{lines_of, lettered, job_of}
 use Rattle.jobs.specs.Texts.{plain_text, signed_text}
 use Rattle.jobs.proofs.JobLaws.{wait_read}
-use Rattle.steps.specs.declared.Ending.{Ending}
-use Rattle.steps.specs.declared.Ending.TheVariants.{Complete, Refused}
-use Rattle.steps.specs.declared.Move.{Move}
+use Rattle.std.specs.Prelude.{Option, None, Some, Result, Ok, Err}
+use Rattle.steps.specs.declared.Fault.{Fault}
 use Rattle.steps.specs.declared.Step.{Step}
-use Rattle.steps.specs.declared.Step.TheVariants.{Last, Drive, Wait}
+use Rattle.steps.specs.declared.Step.TheVariants.{Drive, Wait}
+use Rattle.steps.specs.declared.Move.{Move}
+use Rattle.steps.specs.Numbers.{number_of}
 use Rattle.steps.specs.Steps.{step_at, beyond_at}
-use Rattle.steps.proofs.MadeLaws.{Made, Ended, step_made, beyond_made}
+use Rattle.steps.proofs.MadeLaws.{Ended, Stepped, Made, step_made, beyond_made}
 use Rattle.lists.specs.Lines.{lined, start_word, setting_text, select_text, going_text, move_text, wait_text, total_text, fault_text}
 use Rattle.lists.specs.Listing.{Adding, as_doubles, last_text, printed_by, printed_from, printed_with, printed}
 use Rattle.lists.specs.Script.{taken_as, is_other, script_from, is_script}
@@ -254,17 +255,17 @@ script_last : (first : Bool) (l : List ℕ) → unbroken l ≡ true → is_other
 unfolding script_from
 script_last first l u h = rw (only_line l u) h
 
-last_script : {A : Type 0} (first : Bool) (by : Adding A) (total : A) (at : ℕ) (e : Ending) → Ended at e → is_script first (lines_of (last_text by total e)) ≡ true
-last_script first by total at Complete h =
+last_script : {A : Type 0} (first : Bool) (by : Adding A) (total : A) (at : ℕ) (e : Result Unit Fault) → Ended at e → is_script first (lines_of (last_text by total e)) ≡ true
+last_script first by total at (Ok u) h =
     unfold total_text in script_last first (plain_text (by.number total)) (unbroken_plain (by.number total)) (total_other first (by.number total))
-last_script first by total at (Refused f) h =
+last_script first by total at (Err f) h =
     unfold fault_text in
-    script_last first (plain_text f.number ++ (code " " ∷ plain_text f.offset))
-    (unbroken_both (plain_text f.number) (code " " ∷ plain_text f.offset) (unbroken_plain f.number) (unfold unbroken in unbroken_plain f.offset))
-    (fault_other first f.number f.offset (omega (arith, h.0)) (omega (arith, h.1)))
+    script_last first (plain_text (number_of f.cause) ++ (code " " ∷ plain_text f.offset))
+    (unbroken_both (plain_text (number_of f.cause)) (code " " ∷ plain_text f.offset) (unbroken_plain (number_of f.cause)) (unfold unbroken in unbroken_plain f.offset))
+    (fault_other first (number_of f.cause) f.offset (omega (arith, h.0)) (omega (arith, h.1)))
 
 -- a move in front of lines
-move_script : (first : Bool) (m : Move) (t : List ℕ) → Made 0 (Drive m) → is_script first (lines_of t) ≡ true → is_script first (lines_of (move_text m ++ t)) ≡ true
+move_script : (first : Bool) (m : Move) (t : List ℕ) → Stepped (Drive m) → is_script first (lines_of t) ≡ true → is_script first (lines_of (move_text m ++ t)) ≡ true
 unfolding move_text
 move_script first m t h k =
     rw (append_assoc (setting_text m ++ select_text m) (going_text m) t, append_assoc (setting_text m) (select_text m) (going_text m ++ t))
@@ -305,11 +306,12 @@ unfolding printed_from
 from_script {A} first by zero s total at = last_script first by total at (beyond_at s at) (beyond_made s at)
 from_script {A} first by (suc k) s total at = go (step_at s at) (step_made s at) (λ t p. from_script first by k s t p)
   where
-    go : (x : Step) → Made at x → ((t : A) (p : ℕ) → is_script first (lines_of (printed_from by k s t p)) ≡ true)
+    go : (x : Result (Option Step) Fault) → Made at x → ((t : A) (p : ℕ) → is_script first (lines_of (printed_from by k s t p)) ≡ true)
         → is_script first (lines_of (printed_by by (printed_from by k s) total at x)) ≡ true
-    go (Last e) m rest = last_script first by total at e m
-    go (Drive v) m rest = move_script first v (printed_from by k s total (at + 26)) m (rest total (at + 26))
-    go (Wait y n) m rest = wait_script first n (printed_from by k s (by.more total y n) (at + 11)) m.3 m.4 (rest (by.more total y n) (at + 11))
+    go (Ok None) m rest = last_script first by total at (Ok tt) m
+    go (Err f) m rest = last_script first by total at (Err f) m
+    go (Ok (Some (Drive v))) m rest = move_script first v (printed_from by k s total (at + 26)) m (rest total (at + 26))
+    go (Ok (Some (Wait y n))) m rest = wait_script first n (printed_from by k s (by.more total y n) (at + 11)) m.3 m.4 (rest (by.more total y n) (at + 11))
 
 -- What is printed for a list is a script, and one line more.
 pub printed_script : (first : Bool) (s : List ℕ) → is_script first (lines_of (printed s)) ≡ true

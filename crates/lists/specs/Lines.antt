@@ -4,7 +4,6 @@ use Prim.Native.Char.{code}
 use Rattle.std.specs.Prelude.{ℕ, List, [], ◌∷◌, ◌++◌, Bool, cond}
 use Rattle.text.specs.Text.{bytes, hex_digit}
 use Rattle.jobs.specs.Texts.{plain_text, signed_text}
-use Rattle.steps.specs.declared.Fault.{Fault}
 use Rattle.steps.specs.declared.Move.{Move}
 
 -- a text as a line
@@ -14,6 +13,10 @@ lined s = s ++ bytes "\n"
 -- "C REM first"
 abbrev pub opening_text : List ℕ
 opening_text = lined (bytes "C REM")
+
+-- a word, and the channel that it is of
+abbrev pub head_text : List ℕ → ℕ → List ℕ
+head_text word c = word ++ (hex_digit c ∷ [])
 
 -- "SPDM with the speed": "SPDMx .. the same with d set"; "decimal without leading zeros"
 unfoldable pub setting_text : Move → List ℕ
@@ -44,5 +47,5 @@ unfoldable pub total_text : ℕ → List ℕ
 total_text n = lined (plain_text n)
 
 -- "number and offset replace the total"; "two on a line stand one space apart"
-unfoldable pub fault_text : Fault → List ℕ
-fault_text f = lined (plain_text f.number ++ (code " " ∷ plain_text f.offset))
+unfoldable pub fault_text : ℕ → ℕ → List ℕ
+fault_text number offset = lined (plain_text number ++ (code " " ∷ plain_text offset))

@@ -1,11 +1,11 @@
 -- 02 §8: what is printed for a whole list.
-use Rattle.std.specs.Prelude.{ℕ, zero, suc, ◌+◌, List, ◌++◌, pos, Float}
+use Rattle.std.specs.Prelude.{ℕ, zero, suc, ◌+◌, List, ◌++◌, Option, None, Some, Result, Ok, Err, pos, Float}
 use Rattle.std.specs.Float.{binary64}
 use Rattle.std.specs.Float.Ieee.{add, of_int, to_unsigned}
-use Rattle.steps.specs.declared.Ending.{Ending}
-use Rattle.steps.specs.declared.Ending.TheVariants.{Complete, Refused}
+use Rattle.steps.specs.declared.Fault.{Fault}
 use Rattle.steps.specs.declared.Step.{Step}
-use Rattle.steps.specs.declared.Step.TheVariants.{Last, Drive, Wait}
+use Rattle.steps.specs.declared.Step.TheVariants.{Drive, Wait}
+use Rattle.steps.specs.Numbers.{number_of}
 use Rattle.steps.specs.Steps.{step_at, beyond_at}
 use Rattle.lists.specs.Lines.{opening_text, move_text, wait_text, total_text, fault_text}
 
@@ -24,16 +24,17 @@ abbrev pub as_numbers : Adding ℕ
 as_numbers = record { none = 0; more = λ total x n. total + n; number = λ total. total }
 
 -- "The last line printed is the dwell total"; "At a refusal .. number and offset replace the total"
-abbrev pub last_text : {A : Type 0} → Adding A → A → Ending → List ℕ
-last_text by total Complete = total_text (by.number total)
-last_text by total (Refused f) = fault_text f
+abbrev pub last_text : {A : Type 0} → Adding A → A → Result Unit Fault → List ℕ
+last_text by total (Ok u) = total_text (by.number total)
+last_text by total (Err f) = fault_text (number_of f.cause) f.offset
 
 -- What is printed from a step on; `rest` prints what follows it, by the total and the place after it. A move has three fields, of 4,
 -- 11 and 11 bytes, and a dwell one of 11. "the steps before it stay printed"
-abbrev pub printed_by : {A : Type 0} → Adding A → (A → ℕ → List ℕ) → A → ℕ → Step → List ℕ
-printed_by by rest total at (Last e) = last_text by total e
-printed_by by rest total at (Drive m) = move_text m ++ rest total (at + 26)
-printed_by by rest total at (Wait x n) = wait_text n ++ rest (by.more total x n) (at + 11)
+abbrev pub printed_by : {A : Type 0} → Adding A → (A → ℕ → List ℕ) → A → ℕ → Result (Option Step) Fault → List ℕ
+printed_by by rest total at (Ok None) = last_text by total (Ok tt)
+printed_by by rest total at (Err f) = last_text by total (Err f)
+printed_by by rest total at (Ok (Some (Drive m))) = move_text m ++ rest total (at + 26)
+printed_by by rest total at (Ok (Some (Wait x n))) = wait_text n ++ rest (by.more total x n) (at + 11)
 
 -- What is printed from a place on, where so many steps more may come. "26 a step after the 10,000th": after the last of them the list
 -- ends, or is refused.
@@ -50,10 +51,11 @@ unfoldable pub printed : List ℕ → List ℕ
 printed s = printed_with as_doubles s
 
 -- the total of the dwells up to where a list ends, of which `total_text` prints the number
-abbrev pub total_by : {A : Type 0} → Adding A → (A → ℕ → A) → A → ℕ → Step → A
-total_by by rest total at (Last e) = total
-total_by by rest total at (Drive m) = rest total (at + 26)
-total_by by rest total at (Wait x n) = rest (by.more total x n) (at + 11)
+abbrev pub total_by : {A : Type 0} → Adding A → (A → ℕ → A) → A → ℕ → Result (Option Step) Fault → A
+total_by by rest total at (Ok None) = total
+total_by by rest total at (Err f) = total
+total_by by rest total at (Ok (Some (Drive m))) = rest total (at + 26)
+total_by by rest total at (Ok (Some (Wait x n))) = rest (by.more total x n) (at + 11)
 
 unfoldable pub total_from : {A : Type 0} → Adding A → ℕ → List ℕ → A → ℕ → A
 total_from by zero s total at = total

@@ -1,14 +1,16 @@
 // The lines of a scan list's steps, each at the front of the part that the caller lends, and the last line.
 
-ghost use Rattle.std.specs.Prelude.{[], ◌∷◌, ◌++◌, ◌+◌, ◌<◌, ◌≤◌, T, length};
+#![tactic(auto, using(crate::proofs::OutLaws::widths), unfolding(crate::specs::Lines::setting_text, crate::specs::Lines::going_text, crate::specs::Lines::move_text, crate::specs::Lines::wait_text, crate::specs::Lines::total_text, text::specs::Text::bytes))]
+
+ghost use Rattle.std.specs.Prelude.{◌≡◌, [], ◌∷◌, ◌++◌, ◌+◌, ◌<◌, ◌≤◌, T, length};
 ghost use Rattle.std.specs.Float.{binary64};
 ghost use Rattle.std.specs.Float.Ieee.{in_unsigned, to_unsigned};
 ghost use Rattle.text.specs.Text.{Wrote};
-ghost use Rattle.jobs.specs.Texts.{plain_text};
-ghost use Rattle.lists.specs.Lines.{setting_text, select_text, going_text, move_text, wait_text, total_text, fault_text};
+ghost use Rattle.jobs.specs.Texts.{plain_text, signed_text};
+ghost use Rattle.lists.specs.Lines.{lined, head_text, start_word, setting_text, select_text, going_text, move_text, wait_text, total_text, fault_text};
 
-use steps::{Fault, Move};
-use text::decimal::{distance_of, sign_of, write_decimal};
+use steps::Move;
+use text::decimal::{write_decimal, write_signed};
 use text::hex::hex_digit;
 use text::quoted::write_text;
 
@@ -22,6 +24,16 @@ fn write_then(out: &mut [u8], n: u32, b: u8) -> usize
     k + 1
 }
 
+// The position of a place, and the line's end.
+fn write_place(out: &mut [u8], place: u32) -> usize
+    requires { 12 ≤ length out.old }
+    ensures { Wrote out.old out.new (lined (signed_text place)) result }
+{
+    let k = write_signed(out, 1, place);
+    out[k] = b'\n';
+    k + 1
+}
+
 // A text, a number after it and the line's end.
 fn write_numbered(out: &mut [u8], head: &[u8], n: u32) -> usize
     requires { length head.now + 11 ≤ length out.old }
@@ -31,13 +43,24 @@ fn write_numbered(out: &mut [u8], head: &[u8], n: u32) -> usize
     k + write_then(&mut out[k..], n, b'\n')
 }
 
+// A word of the script, and the channel that it is of. That it is one of sixteen is asked here and below: the definitions (`sped` of
+// steps) make a Move of any channel, so that Move can't have it as an invariant.
+fn write_head(out: &mut [u8], word: &[u8], channel: u8) -> usize
+    requires { (length word.now + 1 ≤ length out.old) × (channel < 16) }
+    ensures { Wrote out.old out.new (head_text word.now channel) result }
+{
+    let k = write_text(out, word);
+    out[k] = hex_digit(channel);
+    k + 1
+}
+
 // The speed of a move, as a setting.
 fn write_setting(out: &mut [u8], m: Move) -> usize
     requires { (18 ≤ length out.old) × (m.channel < 16) }
     ensures { Wrote out.old out.new (setting_text m) result }
 {
-    let head = [b'C', b' ', b'S', b'P', b'D', b'M', hex_digit(m.channel)];
-    write_numbered(out, &head, m.speed)
+    let k = write_head(out, b"C SPDM", m.channel);
+    k + write_then(&mut out[k..], m.speed, b'\n')
 }
 
 // The selection of that speed.
@@ -45,17 +68,16 @@ fn write_select(out: &mut [u8], m: Move) -> usize
     requires { (8 ≤ length out.old) × (m.channel < 16) }
     ensures { Wrote out.old out.new (select_text m) result }
 {
-    let line = [
-        b'C',
-        b' ',
-        b'S',
-        b'P',
-        b'D',
-        b'M',
-        hex_digit(m.channel),
-        b'\n',
-    ];
-    write_text(out, &line)
+    let k = write_head(out, b"C SPDM", m.channel);
+    out[k] = b'\n';
+    k + 1
+}
+
+// The word of a start.
+fn start_word(relative: bool) -> &'static [u8]
+    ensures { result.now ≡ start_word relative }
+{
+    if relative { b"C REL" } else { b"C ABS" }
 }
 
 // The start itself.
@@ -63,16 +85,8 @@ fn write_going(out: &mut [u8], m: Move) -> usize
     requires { (18 ≤ length out.old) × (m.channel < 16) }
     ensures { Wrote out.old out.new (going_text m) result }
 {
-    let x = hex_digit(m.channel);
-    let sign = sign_of(m.place);
-    let n = distance_of(m.place);
-    if m.relative {
-        let head = [b'C', b' ', b'R', b'E', b'L', x, sign];
-        write_numbered(out, &head, n)
-    } else {
-        let head = [b'C', b' ', b'A', b'B', b'S', x, sign];
-        write_numbered(out, &head, n)
-    }
+    let k = write_head(out, start_word(m.relative), m.channel);
+    k + write_place(&mut out[k..], m.place)
 }
 
 // The speed of a move: set, and selected.
@@ -110,10 +124,10 @@ pub fn write_total(out: &mut [u8], total: f64) -> usize
 }
 
 // The number and the offset of what refuses the list.
-pub fn write_fault(out: &mut [u8], f: Fault) -> usize
-    requires { (22 ≤ length out.old) × (f.offset < 4294967296) }
-    ensures { Wrote out.old out.new (fault_text f) result }
+pub fn write_fault(out: &mut [u8], number: u32, offset: usize) -> usize
+    requires { (22 ≤ length out.old) × (offset < 4294967296) }
+    ensures { Wrote out.old out.new (fault_text number offset) result }
 {
-    let k = write_then(out, f.number, b' ');
-    k + write_then(&mut out[k..], f.offset as u32, b'\n')
+    let k = write_then(out, number, b' ');
+    k + write_then(&mut out[k..], offset as u32, b'\n')
 }

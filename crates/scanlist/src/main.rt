@@ -14,19 +14,19 @@ ghost use Rattle.std.specs.Prelude.{◌≤◌, length};
 use lists::listing::write_list;
 use std::io::{Read, Write};
 
-// Reads until the buffer is full, the input ends or a read fails, and answers how many bytes were read.
-fn read_full<R: Read>(from: &mut R, list: &mut [u8]) -> usize
-    ensures { result ≤ length list.new }
+// Reads until the buffer is full, the input ends or a read fails, and answers the bytes that were read.
+fn read_full<'a, R: Read>(from: &mut R, room: &'a mut [u8]) -> &'a [u8]
+    ensures { length result.now ≤ length room.old }
 {
-    let mut n: usize = 0;
-    while n < list.len() {
-        let got = from.read(&mut list[n..]).unwrap_or(0);
-        if got == 0 {
-            break;
-        }
-        n += got;
+    let size = room.len();
+    let mut left = &mut room[..];
+    while !left.is_empty()
+        && let Ok(got @ 1..) = from.read(left)
+    {
+        left = &mut left[got..];
     }
-    n
+    let n = size - left.len();
+    &room[..n]
 }
 
 // Reads what is left, to the end or to a read that fails. A proved loop has to end, and nothing says that the input does, so the turns
@@ -43,10 +43,10 @@ fn drop_rest<R: Read>(from: &mut R) {
 fn main(rt: HostRuntime) {
     let mut input = rt.stdin();
     let mut output = rt.stdout();
-    let mut list = [0u8; 327680];
-    let n = read_full(&mut input, &mut list);
+    let mut room = [0u8; 327680];
+    let list = read_full(&mut input, &mut room);
     let mut out = [0u8; 440064];
-    let k = write_list(&mut out, &list[..n]);
+    let k = write_list(&mut out, list);
     if output.write_all(&out[..k]).is_ok() {
         drop_rest(&mut input);
     }

@@ -1,107 +1,117 @@
 -- 02 §8: "the first fault in the list counts, and in one field the lower number". A list that is refused at a step is refused by the
--- first of its fields that has a fault, with that field's own number and offset. Assumes nothing.
+-- first of its fields that has a fault, for that field's own cause and at its offset. Assumes nothing.
 use mathlib.Core.Path.{◌≡◌, refl, ap, ◌∙◌}
 use mathlib.Core.List.{List, [], ◌∷◌}
 use mathlib.Core.Bool.{Bool, true, false, cond}
 use Prim.Native.Nat.{ℕ, ◌+◌}
 use native.Mathlib.Omega.{arith}
 use lib.Dec.{leb, eqb}
-use borrow.Author.Tests.{ne_eqb}
-use Rattle.steps.specs.declared.SetPoint.{SetPoint}
+use lib.Ieee.{Float}
+use Rattle.std.specs.Prelude.{Option, None, Some, Result, Ok, Err}
+use Rattle.std.specs.Result.{result_err}
 use Rattle.steps.specs.declared.SetPoint.TheVariants.{Dwell}
-use Rattle.steps.specs.declared.Judged.{Judged}
-use Rattle.steps.specs.declared.Judged.TheVariants.{Number, Unfit}
+use Rattle.steps.specs.declared.Cause.{Cause}
+use Rattle.steps.specs.declared.Cause.TheVariants.{WrongChannel, TooMany}
 use Rattle.steps.specs.declared.Fault.{Fault}
-use Rattle.steps.specs.declared.Rate.TheVariants.{Speed, NoSpeed}
-use Rattle.steps.specs.declared.Aim.TheVariants.{Point, NoPoint}
-use Rattle.steps.specs.declared.Opening.TheVariants.{Channel, Bad}
-use Rattle.steps.specs.Numbers.{wrong_channel, too_many}
-use Rattle.steps.specs.Fields.{tag_at, channel_at, ended, frame_fault, double_at}
+use Rattle.steps.specs.declared.Opening.{Opening}
+use Rattle.steps.specs.declared.Opening.TheVariants.{Channel, Dwelling}
+use Rattle.steps.specs.Numbers.{fault_at}
+use Rattle.steps.specs.Fields.{tag_at, channel_at, ended, frame_fault, framed, double_at}
 use Rattle.steps.specs.Judging.{judged_point, judged_speed}
-use Rattle.steps.specs.Steps.{fault_at, channel_of, dwell_of, opening_at, aim_of, aim_at, rate_at, is_distance, sped, rated_by, aimed_by, pointed_by, move_at, opened_by, step_at, excess, beyond_at}
-use Rattle.steps.specs.Faults.{unfit, lower, opening_number, aim_number, rate_number, faults_of, first_fault, ending_fault, fault_in}
-use Rattle.steps.proofs.MadeLaws.{Placed, pointed, Counted, counted}
+use Rattle.steps.specs.Steps.{and_then, judged_at, channel_of, dwell_of, opening_at, aim_of, aim_at, rate_at, is_distance, sped, aimed_by, move_at, opened_by, step_at, beyond_at}
+use Rattle.steps.specs.Faults.{lower, opening_cause, aim_cause, rate_cause, faulted, faults_of, first_fault}
 
 -- a speed's field, where what stands before it is good
-rate_fault_law : (s : List ℕ) (at c p : ℕ) (relative : Bool) → fault_in (rated_by c relative p at (rate_at s at)) ≡ first_fault (fault_at (rate_number s at) at ∷ [])
-unfolding rate_at rate_number first_fault
-rate_fault_law s at c p relative = go (eqb (frame_fault 4 4 s at) 0) refl
+rate_fault_law : (s : List ℕ) (at c p : ℕ) (relative : Bool)
+    → result_err (and_then (rate_at s at) (λ x. sped c relative p (judged_at at (judged_speed x)))) ≡ first_fault (faulted at (rate_cause s at) ∷ [])
+unfolding rate_at rate_cause first_fault
+rate_fault_law s at c p relative = go (frame_fault 4 4 s at)
   where
-    judged : (j : Judged) → Counted 5000000 (double_at s at) j → fault_in (sped c relative p at j) ≡ cond (eqb (unfit j) 0) (fault_at 0 0) (fault_at (unfit j) at)
-    judged (Number n) h = refl
-    judged (Unfit k) h = rw (ne_eqb k 0 (λ e. absurd (omega (arith, h.0))))
+    by : (j : Result ℕ Cause) → result_err (sped c relative p (judged_at at j)) ≡ first_fault (faulted at (result_err j) ∷ [])
+    by (Ok v) = refl
+    by (Err k) = refl
 
-    go : (t : Bool) → eqb (frame_fault 4 4 s at) 0 ≡ t
-        → fault_in (rated_by c relative p at (cond t (Speed (double_at s at)) (NoSpeed (fault_at (frame_fault 4 4 s at) at))))
-        ≡ cond (eqb (cond t (unfit (judged_speed (double_at s at))) (frame_fault 4 4 s at)) 0) (fault_at 0 0) (fault_at (cond t (unfit (judged_speed (double_at s at))) (frame_fault 4 4 s at)) at)
-    go true e = judged (judged_speed (double_at s at)) (unfold judged_speed in counted 5000000 (double_at s at))
-    go false e = rw e
+    go : (o : Option Cause)
+        → result_err (and_then (and_then (framed (tag_at s at) at o) (λ tag. Ok (double_at s at))) (λ x. sped c relative p (judged_at at (judged_speed x))))
+        ≡ first_fault (faulted at (lower o (result_err (judged_speed (double_at s at)))) ∷ [])
+    go None = by (judged_speed (double_at s at))
+    go (Some k) = refl
 
 -- a target's field and its speed's
-move_fault : (s : List ℕ) (at c : ℕ) → fault_in (move_at s at c) ≡ first_fault (fault_at (aim_number s at) at ∷ fault_at (rate_number s (at + 11)) (at + 11) ∷ [])
-unfolding move_at aim_at aim_number first_fault
-move_fault s at c = go (eqb (frame_fault 2 3 s at) 0) refl
+move_fault : (s : List ℕ) (at c : ℕ) → result_err (move_at s at c) ≡ first_fault (faulted at (aim_cause s at) ∷ faulted (at + 11) (rate_cause s (at + 11)) ∷ [])
+unfolding move_at aim_at aim_cause first_fault
+move_fault s at c = go (frame_fault 2 3 s at)
   where
-    rest : Fault
-    rest = first_fault (fault_at (rate_number s (at + 11)) (at + 11) ∷ [])
+    by : (relative : Bool) (j : Result ℕ Cause)
+        → result_err (aimed_by c relative (at + 11) (rate_at s (at + 11)) (judged_at at j)) ≡ first_fault (faulted at (result_err j) ∷ faulted (at + 11) (rate_cause s (at + 11)) ∷ [])
+    by relative (Ok p) = rate_fault_law s (at + 11) c p relative
+    by relative (Err k) = refl
 
-    judged : (relative : Bool) (j : Judged) → Placed j → fault_in (aimed_by c relative at (rate_at s (at + 11)) j) ≡ cond (eqb (unfit j) 0) rest (fault_at (unfit j) at)
-    judged relative (Number p) h = rate_fault_law s (at + 11) c p relative
-    judged relative (Unfit k) h = rw (ne_eqb k 0 (λ e. absurd (omega (arith, h.0))))
-
-    point : SetPoint
-    point = aim_of (eqb (tag_at s at) 3) (double_at s at)
-
-    go : (t : Bool) → eqb (frame_fault 2 3 s at) 0 ≡ t
-        → fault_in (pointed_by c at (rate_at s (at + 11)) (cond t (Point point) (NoPoint (fault_at (frame_fault 2 3 s at) at))))
-        ≡ cond (eqb (cond t (unfit (judged_point point)) (frame_fault 2 3 s at)) 0) rest (fault_at (cond t (unfit (judged_point point)) (frame_fault 2 3 s at)) at)
-    go true e = judged (is_distance point) (judged_point point) (pointed point)
-    go false e = rw e
+    go : (o : Option Cause)
+        → result_err (and_then (and_then (framed (tag_at s at) at o) (λ tag. Ok (aim_of (eqb tag 3) (double_at s at)))) (λ p. aimed_by c (is_distance p) (at + 11) (rate_at s (at + 11)) (judged_at at (judged_point p))))
+        ≡ first_fault (faulted at (lower o (result_err (judged_point (aim_of (eqb (tag_at s at) 3) (double_at s at))))) ∷ faulted (at + 11) (rate_cause s (at + 11)) ∷ [])
+    go None = by (is_distance (aim_of (eqb (tag_at s at) 3) (double_at s at))) (judged_point (aim_of (eqb (tag_at s at) 3) (double_at s at)))
+    go (Some k) = refl
 
 -- a whole step
-pub first_fault_law : (s : List ℕ) (at : ℕ) → ended s at ≡ false → fault_in (step_at s at) ≡ first_fault (faults_of s at)
-unfolding step_at opening_at opening_number faults_of first_fault
-first_fault_law s at h = rw h (go (eqb (frame_fault 1 5 s at) 0) refl (eqb (tag_at s at) 1))
+pub first_fault_law : (s : List ℕ) (at : ℕ) → ended s at ≡ false → result_err (step_at s at) ≡ first_fault (faults_of s at)
+unfolding step_at opening_at opening_cause faults_of first_fault
+first_fault_law s at h = rw h (same (and_then (opening_at s at) (opened_by s at)) ∙ go (frame_fault 1 5 s at))
   where
-    rest : Fault
-    rest = first_fault (fault_at (aim_number s (at + 4)) (at + 4) ∷ fault_at (rate_number s (at + 15)) (at + 15) ∷ [])
+    same : {A : Type 0} (r : Result A Fault) → result_err (and_then r (λ x. Ok (Some x))) ≡ result_err r
+    same (Ok x) = refl
+    same (Err f) = refl
 
-    move : fault_in (move_at s (at + 4) (channel_at s at)) ≡ rest
-    move = let far : at + 4 + 11 ≡ at + 15 = omega arith in move_fault s (at + 4) (channel_at s at) ∙ ap (λ (o : ℕ). first_fault (fault_at (aim_number s (at + 4)) (at + 4) ∷ fault_at (rate_number s o) o ∷ [])) far
+    rest : List (Option Fault)
+    rest = faulted (at + 4) (aim_cause s (at + 4)) ∷ faulted (at + 15) (rate_cause s (at + 15)) ∷ []
 
-    channel : (t : Bool) → fault_in (opened_by s at (cond t (Channel (channel_at s at)) (Bad (fault_at wrong_channel at)))) ≡ cond (eqb (cond t 0 wrong_channel) 0) rest (fault_at (cond t 0 wrong_channel) at)
+    move : result_err (move_at s (at + 4) (channel_at s at)) ≡ first_fault rest
+    move = let far : at + 4 + 11 ≡ at + 15 = omega arith in move_fault s (at + 4) (channel_at s at) ∙ ap (λ (o : ℕ). first_fault (faulted (at + 4) (aim_cause s (at + 4)) ∷ faulted o (rate_cause s o) ∷ [])) far
+
+    channel : (t : Bool) → result_err (and_then (cond t (Ok (Channel (channel_at s at))) (Err (fault_at WrongChannel at))) (opened_by s at)) ≡ first_fault (faulted at (cond t None (Some WrongChannel)) ∷ rest)
     channel true = move
     channel false = refl
 
-    dwell : (j : Judged) → Counted 10000 (double_at s at) j → fault_in (opened_by s at (dwell_of (double_at s at) j at)) ≡ cond (eqb (unfit j) 0) (fault_at 0 0) (fault_at (unfit j) at)
-    dwell (Number n) k = refl
-    dwell (Unfit n) k = rw (ne_eqb n 0 (λ e. absurd (omega (arith, k.0))))
+    dwell : (x : Float) (j : Result ℕ Cause) → result_err (and_then (and_then (judged_at at j) (λ n. Ok (Dwelling x n))) (opened_by s at)) ≡ first_fault (faulted at (result_err j) ∷ [])
+    dwell x (Ok n) = refl
+    dwell x (Err k) = refl
 
-    go : (t : Bool) → eqb (frame_fault 1 5 s at) 0 ≡ t → (u : Bool)
-        → fault_in (opened_by s at (cond t (cond u (channel_of (channel_at s at) at) (dwell_of (double_at s at) (judged_point (Dwell (double_at s at))) at)) (Bad (fault_at (frame_fault 1 5 s at) at))))
-        ≡ cond (eqb (cond t (cond u (cond (leb (channel_at s at) 15) 0 wrong_channel) (unfit (judged_point (Dwell (double_at s at))))) (frame_fault 1 5 s at)) 0)
-        (first_fault (cond u (fault_at (aim_number s (at + 4)) (at + 4) ∷ fault_at (rate_number s (at + 15)) (at + 15) ∷ []) []))
-        (fault_at (cond t (cond u (cond (leb (channel_at s at) 15) 0 wrong_channel) (unfit (judged_point (Dwell (double_at s at))))) (frame_fault 1 5 s at)) at)
-    go true e true = channel (leb (channel_at s at) 15)
-    go true e false = dwell (judged_point (Dwell (double_at s at))) (unfold judged_point in counted 10000 (double_at s at))
-    go false e u = rw e
+    tagged : (u : Bool)
+        → result_err (and_then (cond u (channel_of (channel_at s at) at) (dwell_of (double_at s at) at)) (opened_by s at))
+        ≡ first_fault (faulted at (cond u (cond (leb (channel_at s at) 15) None (Some WrongChannel)) (result_err (judged_point (Dwell (double_at s at))))) ∷ cond u rest [])
+    tagged true = channel (leb (channel_at s at) 15)
+    tagged false = dwell (double_at s at) (judged_point (Dwell (double_at s at)))
+
+    go : (o : Option Cause)
+        → result_err (and_then (and_then (framed (tag_at s at) at o) (λ tag. cond (eqb tag 1) (channel_of (channel_at s at) at) (dwell_of (double_at s at) at))) (opened_by s at))
+        ≡ first_fault (faulted at (lower o (cond (eqb (tag_at s at) 1) (cond (leb (channel_at s at) 15) None (Some WrongChannel)) (result_err (judged_point (Dwell (double_at s at)))))) ∷ cond (eqb (tag_at s at) 1) rest [])
+    go None = tagged (eqb (tag_at s at) 1)
+    go (Some k) = refl
 
 -- "26 a step after the 10,000th", "in one field the lower number": the field that stands where no more step may
-pub beyond_fault : (s : List ℕ) (at : ℕ) → ended s at ≡ false → ending_fault (beyond_at s at) ≡ fault_at (lower (opening_number s at) too_many) at
-unfolding beyond_at opening_at opening_number
-beyond_fault s at h = rw h (go (eqb (frame_fault 1 5 s at) 0) refl (eqb (tag_at s at) 1))
+pub beyond_fault : (s : List ℕ) (at : ℕ) → ended s at ≡ false → result_err (beyond_at s at) ≡ faulted at (lower (opening_cause s at) (Some TooMany))
+unfolding beyond_at opening_at opening_cause
+beyond_fault s at h = rw h (go (frame_fault 1 5 s at))
   where
-    channel : (t : Bool) → ending_fault (excess at (cond t (Channel (channel_at s at)) (Bad (fault_at wrong_channel at)))) ≡ fault_at (lower (cond t 0 wrong_channel) too_many) at
+    excess : Opening → Result Unit Fault
+    excess o = Err (fault_at TooMany at)
+
+    channel : (t : Bool) → result_err (and_then (cond t (Ok (Channel (channel_at s at))) (Err (fault_at WrongChannel at))) excess) ≡ faulted at (lower (cond t None (Some WrongChannel)) (Some TooMany))
     channel true = refl
     channel false = refl
 
-    dwell : (j : Judged) → Counted 10000 (double_at s at) j → ending_fault (excess at (dwell_of (double_at s at) j at)) ≡ fault_at (lower (unfit j) too_many) at
-    dwell (Number n) k = refl
-    dwell (Unfit n) k = rw (ne_eqb n 0 (λ e. absurd (omega (arith, k.0))))
+    dwell : (x : Float) (j : Result ℕ Cause) → result_err (and_then (and_then (judged_at at j) (λ n. Ok (Dwelling x n))) excess) ≡ faulted at (lower (result_err j) (Some TooMany))
+    dwell x (Ok n) = refl
+    dwell x (Err k) = refl
 
-    go : (t : Bool) → eqb (frame_fault 1 5 s at) 0 ≡ t → (u : Bool)
-        → ending_fault (excess at (cond t (cond u (channel_of (channel_at s at) at) (dwell_of (double_at s at) (judged_point (Dwell (double_at s at))) at)) (Bad (fault_at (frame_fault 1 5 s at) at))))
-        ≡ fault_at (lower (cond t (cond u (cond (leb (channel_at s at) 15) 0 wrong_channel) (unfit (judged_point (Dwell (double_at s at))))) (frame_fault 1 5 s at)) too_many) at
-    go true e true = channel (leb (channel_at s at) 15)
-    go true e false = dwell (judged_point (Dwell (double_at s at))) (unfold judged_point in counted 10000 (double_at s at))
-    go false e u = rw e
+    tagged : (u : Bool)
+        → result_err (and_then (cond u (channel_of (channel_at s at) at) (dwell_of (double_at s at) at)) excess)
+        ≡ faulted at (lower (cond u (cond (leb (channel_at s at) 15) None (Some WrongChannel)) (result_err (judged_point (Dwell (double_at s at))))) (Some TooMany))
+    tagged true = channel (leb (channel_at s at) 15)
+    tagged false = dwell (double_at s at) (judged_point (Dwell (double_at s at)))
+
+    go : (o : Option Cause)
+        → result_err (and_then (and_then (framed (tag_at s at) at o) (λ tag. cond (eqb tag 1) (channel_of (channel_at s at) at) (dwell_of (double_at s at) at))) excess)
+        ≡ faulted at (lower (lower o (cond (eqb (tag_at s at) 1) (cond (leb (channel_at s at) 15) None (Some WrongChannel)) (result_err (judged_point (Dwell (double_at s at)))))) (Some TooMany))
+    go None = tagged (eqb (tag_at s at) 1)
+    go (Some k) = refl

@@ -1,5 +1,5 @@
 -- What stands far behind a place makes no difference to the step there: a field has no more than 65,538 bytes. Assumes nothing.
-use mathlib.Core.Path.{◌≡◌, refl}
+use mathlib.Core.Path.{◌≡◌, refl, ap}
 use mathlib.Core.List.{List, ◌++◌}
 use mathlib.Core.Bool.{false}
 use Prim.Native.Nat.{ℕ, ◌+◌, ◌≤◌, ◌<◌}
@@ -11,9 +11,12 @@ use Rattle.digits.specs.Bytes.{AllBytes, part}
 use Rattle.digits.proofs.PartLaws.{part_length, part_bytes}
 use Rattle.digits.proofs.WordLaws.{word_below}
 use Rattle.steps.specs.Fields.{tag_at, length_at, channel_at, is_cut, frame_fault, double_at}
-use Rattle.steps.specs.Steps.{opening_at, aim_at, rate_at, move_at, step_at, beyond_at, opened_by}
+use Rattle.std.specs.Prelude.{Option, Some, Result, Ok, Err}
+use Rattle.steps.specs.declared.Fault.{Fault}
 use Rattle.steps.specs.declared.Opening.{Opening}
-use Rattle.steps.specs.declared.Opening.TheVariants.{Channel, Dwelling, Bad}
+use Rattle.steps.specs.declared.Opening.TheVariants.{Channel, Dwelling}
+use Rattle.steps.specs.declared.Step.{Step}
+use Rattle.steps.specs.Steps.{and_then, opening_at, aim_at, rate_at, move_at, step_at, beyond_at, opened_by}
 
 module _ (a b : List ℕ) (all : AllBytes a) where
   part_front : (at k : ℕ) → at + k ≤ length a → part (a ++ b) at k ≡ part a at k
@@ -55,17 +58,17 @@ module _ (a b : List ℕ) (all : AllBytes a) where
   move_front : (at c : ℕ) → at + 65549 ≤ length a → move_at (a ++ b) at c ≡ move_at a at c
   unfolding move_at aim_at rate_at
   move_front at c h =
-      rw (frame_front 2 3 at (omega arith), tag_front at (omega arith), double_front at (omega arith), frame_front 4 4 (at + 11) (omega arith), double_front (at + 11) (omega arith))
+      rw (frame_front 2 3 at (omega arith), tag_front at (omega arith), double_front at (omega arith), frame_front 4 4 (at + 11) (omega arith), tag_front (at + 11) (omega arith), double_front (at + 11) (omega arith))
 
   pub step_front : (at : ℕ) → at + 65553 ≤ length a → step_at (a ++ b) at ≡ step_at a at
   unfolding step_at
   step_front at h =
       rw (lt-leb (length (a ++ b)) at (rw length-append (omega arith)), lt-leb (length a) at (omega arith), opening_front at (omega arith)) (go (opening_at a at))
     where
-      go : (o : Opening) → opened_by (a ++ b) at o ≡ opened_by a at o
-      go (Channel c) = move_front (at + 4) c (omega arith)
-      go (Dwelling x n) = refl
-      go (Bad f) = refl
+      go : (o : Result Opening Fault) → ◌≡◌ {A = Result (Option Step) Fault} (and_then (and_then o (opened_by (a ++ b) at)) (λ x. Ok (Some x))) (and_then (and_then o (opened_by a at)) (λ x. Ok (Some x)))
+      go (Ok (Channel c)) = ap (λ (r : Result Step Fault). and_then r (λ x. Ok (Some x))) (move_front (at + 4) c (omega arith))
+      go (Ok (Dwelling x n)) = refl
+      go (Err f) = refl
 
   pub beyond_front : (at : ℕ) → at + 65538 ≤ length a → beyond_at (a ++ b) at ≡ beyond_at a at
   unfolding beyond_at

@@ -1,19 +1,18 @@
 -- What a double is judged to be, by what the code tells of it. Assumes nothing.
-use mathlib.Core.Path.{◌≡◌, refl, sym}
-use mathlib.Core.Bool.{Bool, true, false, ◌&&◌, not, cond, true≢false}
-use Prim.Native.Nat.{ℕ, ◌≤◌, ◌<◌, min}
+use mathlib.Core.Path.{◌≡◌, refl}
+use mathlib.Core.Bool.{Bool, true, false, ◌&&◌, not, cond}
+use Prim.Native.Nat.{ℕ, ◌<◌, min}
 use native.Mathlib.Omega.{arith}
 use lib.Dec.{leb}
 use lib.Ieee.{Float}
 use borrow.Author.Tests.{leb-true, leb-false, lt-leb}
 use Rattle.digits.specs.Places.{origin, cw, ccw, moved}
-use Rattle.doubles.specs.declared.Measure.{Measure}
-use Rattle.doubles.specs.declared.Measure.TheVariants.{Whole, Broken}
+use Rattle.std.specs.Prelude.{Option, None, Some, Result, Ok, Err}
+use Rattle.doubles.specs.declared.Whole.{Whole}
 use Rattle.doubles.specs.Doubles.{is_whole, size_of, is_minus}
-use Rattle.doubles.specs.Measures.{largest, measure_of}
-use Rattle.steps.specs.declared.Judged.{Judged}
-use Rattle.steps.specs.declared.Judged.TheVariants.{Number, Unfit}
-use Rattle.steps.specs.Numbers.{not_whole, out_of_range}
+use Rattle.doubles.specs.Measures.{largest, whole, measure_of}
+use Rattle.steps.specs.declared.Cause.{Cause}
+use Rattle.steps.specs.declared.Cause.TheVariants.{NotWhole, OutOfRange}
 use Rattle.steps.specs.Judging.{judged_place, judged_number}
 
 -- a size is as much in a range as what is told of it, and then it is told whole
@@ -24,23 +23,23 @@ told {A} most n f z h = go (leb n most) refl
     go true e = let same : min n largest ≡ n = omega (arith, leb-true n most e) in rw (same, e)
     go false e = rw (lt-leb (min n largest) most (omega (arith, leb-false n most e)))
 
-abbrev pub place_by : Measure → Judged
-place_by (Whole minus n) = cond (leb n 2147483647) (Number (moved (cond minus ccw cw) origin n)) (Unfit out_of_range)
-place_by Broken = Unfit not_whole
+abbrev pub place_by : Option Whole → Result ℕ Cause
+place_by (Some w) = cond (leb w.size 2147483647) (Ok (moved (cond w.minus ccw cw) origin w.size)) (Err OutOfRange)
+place_by None = Err NotWhole
 
 pub placed : (x : Float) → judged_place x ≡ place_by (measure_of x)
 unfolding judged_place measure_of
 placed x = go (is_whole x)
   where
     go : (t : Bool)
-        → cond t (cond (leb (size_of x) 2147483647) (Number (moved (cond (is_minus x) ccw cw) origin (size_of x))) (Unfit out_of_range)) (Unfit not_whole)
-        ≡ place_by (cond t (Whole (is_minus x) (min (size_of x) largest)) Broken)
-    go true = told 2147483647 (size_of x) (λ n. Number (moved (cond (is_minus x) ccw cw) origin n)) (Unfit out_of_range) (omega arith)
+        → cond t (cond (leb (size_of x) 2147483647) (Ok (moved (cond (is_minus x) ccw cw) origin (size_of x))) (Err OutOfRange)) (Err NotWhole)
+        ≡ place_by (cond t (whole (is_minus x) (min (size_of x) largest)) None)
+    go true = told 2147483647 (size_of x) (λ n. Ok (moved (cond (is_minus x) ccw cw) origin n)) (Err OutOfRange) (omega arith)
     go false = refl
 
-abbrev pub number_by : ℕ → Measure → Judged
-number_by most (Whole minus n) = cond (leb 1 n && not minus && leb n most) (Number n) (Unfit out_of_range)
-number_by most Broken = Unfit not_whole
+abbrev pub number_by : ℕ → Option Whole → Result ℕ Cause
+number_by most (Some w) = cond (leb 1 w.size && not w.minus && leb w.size most) (Ok w.size) (Err OutOfRange)
+number_by most None = Err NotWhole
 
 neither : (p : Bool) → (p && false) ≡ false
 neither true = refl
@@ -51,19 +50,14 @@ unfolding judged_number measure_of
 numbered most x h = go (is_whole x)
   where
     sized : (n : ℕ) (t : Bool) → leb n most ≡ t
-        → cond (leb 1 n && not (is_minus x) && leb n most) (Number n) (Unfit out_of_range)
-        ≡ cond (leb 1 (min n largest) && not (is_minus x) && leb (min n largest) most) (Number (min n largest)) (Unfit out_of_range)
+        → cond (leb 1 n && not (is_minus x) && leb n most) (Ok n) (Err OutOfRange)
+        ≡ cond (leb 1 (min n largest) && not (is_minus x) && leb (min n largest) most) (Ok (min n largest)) (Err OutOfRange)
     sized n true e = let same : min n largest ≡ n = omega (arith, leb-true n most e) in rw same
     sized n false e =
         rw (e, lt-leb (min n largest) most (omega (arith, leb-false n most e)), neither (leb 1 n && not (is_minus x)), neither (leb 1 (min n largest) && not (is_minus x)))
 
     go : (t : Bool)
-        → cond t (cond (leb 1 (size_of x) && not (is_minus x) && leb (size_of x) most) (Number (size_of x)) (Unfit out_of_range)) (Unfit not_whole)
-        ≡ number_by most (cond t (Whole (is_minus x) (min (size_of x) largest)) Broken)
+        → cond t (cond (leb 1 (size_of x) && not (is_minus x) && leb (size_of x) most) (Ok (size_of x)) (Err OutOfRange)) (Err NotWhole)
+        ≡ number_by most (cond t (whole (is_minus x) (min (size_of x) largest)) None)
     go true = sized (size_of x) (leb (size_of x) most) refl
     go false = refl
-
--- a size that is taken is in its range
-pub in_range_law : (p : Bool) (n most : ℕ) → (p && leb n most) ≡ true → n ≤ most
-in_range_law true n most e = leb-true n most e
-in_range_law false n most e = absurd (true≢false (sym e))

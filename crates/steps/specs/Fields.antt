@@ -1,10 +1,13 @@
 -- 02 §8: "A list is fields of one-byte tag, two-byte length and value, low byte first". A place in the list is an offset from 0.
-use Rattle.std.specs.Prelude.{ℕ, ◌+◌, List, Bool, ◌||◌, not, cond, length, leb, ltb, eqb, Float}
+use Rattle.std.specs.Prelude.{ℕ, ◌+◌, List, Bool, ◌||◌, not, cond, length, leb, ltb, eqb, Option, None, Some, Result, Ok, Err, Float}
 use Rattle.std.specs.Float.{binary64}
 use Rattle.std.specs.Float.Ieee.{of_bits}
 use Rattle.digits.specs.Bytes.{part}
 use Rattle.digits.specs.Words.{word}
-use Rattle.steps.specs.Numbers.{cut_short, tag_or_order, wrong_length}
+use Rattle.steps.specs.declared.Cause.{Cause}
+use Rattle.steps.specs.declared.Cause.TheVariants.{CutShort, TagOrOrder, WrongLength}
+use Rattle.steps.specs.declared.Fault.{Fault}
+use Rattle.steps.specs.Numbers.{fault_at}
 
 -- "one-byte tag": that of the field at a place
 unfoldable pub tag_at : List ℕ → ℕ → ℕ
@@ -30,15 +33,23 @@ is_cut s at = ltb (length s) (at + 3) || ltb (length s) (at + 3 + length_at s at
 abbrev pub value_size : ℕ → ℕ
 value_size tag = cond (eqb tag 1) 1 8
 
--- The number that refuses the field at a place where tag a or b is to stand, its value aside; 0 is none. "a list that ends inside a
--- step: at its end", "in one field the lower number"
-unfoldable pub frame_fault : ℕ → ℕ → List ℕ → ℕ → ℕ
+-- What refuses the field at a place where tag a or b is to stand, its value aside. "a list that ends inside a step: at its end", "in one
+-- field the lower number"
+unfoldable pub frame_fault : ℕ → ℕ → List ℕ → ℕ → Option Cause
 frame_fault a b s at =
-    cond (ended s at) tag_or_order
-    (cond (is_cut s at) cut_short
-    (cond (not (eqb (tag_at s at) a || eqb (tag_at s at) b)) tag_or_order
-    (cond (not (eqb (length_at s at) (value_size (tag_at s at)))) wrong_length
-    0)))
+    cond (ended s at) (Some TagOrOrder)
+    (cond (is_cut s at) (Some CutShort)
+    (cond (not (eqb (tag_at s at) a || eqb (tag_at s at) b)) (Some TagOrOrder)
+    (cond (not (eqb (length_at s at) (value_size (tag_at s at)))) (Some WrongLength)
+    None)))
+
+-- the tag, where nothing refuses the field
+abbrev pub framed : ℕ → ℕ → Option Cause → Result ℕ Fault
+framed tag at None = Ok tag
+framed tag at (Some k) = Err (fault_at k at)
+
+abbrev pub frame_at : ℕ → ℕ → List ℕ → ℕ → Result ℕ Fault
+frame_at a b s at = framed (tag_at s at) at (frame_fault a b s at)
 
 -- "each an eight-byte double", "low byte first": that of the field at a place
 unfoldable pub double_at : List ℕ → ℕ → Float

@@ -1,16 +1,13 @@
 -- Parts of a step as the code takes them, for the promises of its functions; nobody need believe them, since what they come to is `step_at`.
-use Rattle.std.specs.Prelude.{ℕ, Float}
+use Rattle.std.specs.Prelude.{ℕ, ◌+◌, Bool, Result, Ok, Err, Float}
 use Rattle.steps.specs.declared.SetPoint.{SetPoint}
 use Rattle.steps.specs.declared.SetPoint.TheVariants.{Target, Distance, Dwell}
-use Rattle.steps.specs.declared.Judged.{Judged}
-use Rattle.steps.specs.declared.Judged.TheVariants.{Number, Unfit}
+use Rattle.steps.specs.declared.Cause.{Cause}
 use Rattle.steps.specs.declared.Fault.{Fault}
-use Rattle.steps.specs.declared.Aim.{Aim}
-use Rattle.steps.specs.declared.Aim.TheVariants.{Point, NoPoint}
-use Rattle.steps.specs.declared.Rate.{Rate}
-use Rattle.steps.specs.declared.Rate.TheVariants.{Speed, NoSpeed}
 use Rattle.steps.specs.declared.Step.{Step}
-use Rattle.steps.specs.Steps.{fault_at, refusing}
+use Rattle.steps.specs.Numbers.{fault_at}
+use Rattle.steps.specs.Judging.{judged_point}
+use Rattle.steps.specs.Steps.{judged_at, aim_of, aimed_by}
 
 -- a set-point's own double
 abbrev pub double_in : SetPoint → Float
@@ -18,17 +15,11 @@ double_in (Target x) = x
 double_in (Distance x) = x
 double_in (Dwell x) = x
 
--- what refuses a target's field; one that is good has number 0 at 0 for it
-abbrev pub aim_fault : Aim → Fault
-aim_fault (Point p) = fault_at 0 0
-aim_fault (NoPoint f) = f
-
--- what refuses a speed's field, likewise
-abbrev pub rate_fault : Rate → Fault
-rate_fault (Speed x) = fault_at 0 0
-rate_fault (NoSpeed f) = f
-
 -- a target whose speed's field is refused: its own fault comes before
-abbrev pub unrated : ℕ → Fault → Judged → Step
-unrated at f (Number p) = refusing f
-unrated at f (Unfit k) = refusing (fault_at k at)
+abbrev pub unrated : ℕ → Fault → Result ℕ Cause → Fault
+unrated at f (Ok p) = f
+unrated at f (Err k) = fault_at k at
+
+-- a move, by its two doubles; its target's field stands at a place
+abbrev pub judged_move : ℕ → Bool → Float → Float → ℕ → Result Step Fault
+judged_move c relative target speed at = aimed_by c relative (at + 11) (Ok speed) (judged_at at (judged_point (aim_of relative target)))

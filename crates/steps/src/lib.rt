@@ -3,24 +3,49 @@
 
 #![tactic(auto)]
 
+ghost use Rattle.std.specs.Prelude.{◌≡◌};
+ghost use Rattle.steps.specs.Numbers.{number_of, fault_at};
+
 pub mod frames;
 pub mod judging;
 pub mod reading;
 
-// The numbers of what refuses a list.
-pub const CUT_SHORT: u32 = 20;
+// What refuses a list, by the number that is printed for it.
+#[derive(Clone, Copy, PartialEq, Eq)]
+pub enum Cause {
+    CutShort = 20,
+    TagOrOrder = 21,
+    WrongLength = 22,
+    WrongChannel = 23,
+    NotWhole = 24,
+    OutOfRange = 25,
+    TooMany = 26,
+}
 
-pub const TAG_OR_ORDER: u32 = 21;
+impl Cause {
+    pub fn number(self) -> u32
+        ensures { result ≡ number_of self }
+    {
+        self as u32
+    }
 
-pub const WRONG_LENGTH: u32 = 22;
+    // The fault of the field at a place.
+    pub fn at(self, offset: usize) -> Fault
+        ensures { result ≡ fault_at self offset }
+    {
+        Fault {
+            cause: self,
+            offset,
+        }
+    }
+}
 
-pub const WRONG_CHANNEL: u32 = 23;
-
-pub const NOT_WHOLE: u32 = 24;
-
-pub const OUT_OF_RANGE: u32 = 25;
-
-pub const TOO_MANY: u32 = 26;
+// What refuses a list: the cause, and the offset of its field.
+#[derive(Clone, Copy, PartialEq, Eq)]
+pub struct Fault {
+    pub cause: Cause,
+    pub offset: usize,
+}
 
 // A set-point, with the double that it came with.
 #[derive(Clone, Copy)]
@@ -37,40 +62,11 @@ pub struct Pair {
     pub speed: f64,
 }
 
-// What a double is judged to be: the whole number that it stands for, a position by its place, or the number of its refusal.
-#[derive(Clone, Copy)]
-pub enum Judged {
-    Number(u32),
-    Unfit(u32),
-}
-
-// What refuses a list: its number, and the offset of its field.
-#[derive(Clone, Copy)]
-pub struct Fault {
-    pub number: u32,
-    pub offset: usize,
-}
-
-// The field of a target or a distance.
-#[derive(Clone, Copy)]
-pub enum Aim {
-    Point(SetPoint),
-    NoPoint(Fault),
-}
-
-// The field of a speed.
-#[derive(Clone, Copy)]
-pub enum Rate {
-    Speed(f64),
-    NoSpeed(Fault),
-}
-
-// The first field of a step: a channel, or a dwell with its double and its number, or what refuses it.
+// The first field of a step: a channel, or a dwell with its double and its number.
 #[derive(Clone, Copy)]
 pub enum Opening {
     Channel(u8),
     Dwelling(f64, u32),
-    Bad(Fault),
 }
 
 // A move of a channel to a target or by a distance, each by its place, and at a speed.
@@ -82,17 +78,9 @@ pub struct Move {
     pub speed: u32,
 }
 
-// How a list ends: whole, or with what refuses it.
-#[derive(Clone, Copy)]
-pub enum Ending {
-    Complete,
-    Refused(Fault),
-}
-
-// The step at a place of the list: none, since the list ends there; a move; or a dwell with its double and its number.
+// A step of the list: a move, or a dwell with its double and its number.
 #[derive(Clone, Copy)]
 pub enum Step {
-    Last(Ending),
     Drive(Move),
     Wait(f64, u32),
 }

@@ -1,253 +1,158 @@
 // The step that stands at a place of a list.
 
+#![tactic(auto, using(crate::proofs::FieldLaws::good_byte, crate::proofs::FieldLaws::good_double, crate::proofs::FieldLaws::good_other, crate::proofs::StepLaws::aim_there), unfolding(crate::specs::Steps::opening_at, crate::specs::Steps::aim_at, crate::specs::Steps::rate_at, crate::specs::Steps::move_at, crate::specs::Steps::step_at, crate::specs::Steps::beyond_at))]
+
 ghost use Rattle.std.specs.Prelude.{◌≡◌, ◌+◌, ◌<◌};
-ghost use Rattle.steps.specs.declared.SetPoint.TheVariants.{Dwell};
-ghost use Rattle.steps.specs.declared.Rate.TheVariants.{Speed};
-ghost use Rattle.steps.specs.Judging.{judged_point, judged_speed};
-ghost use Rattle.steps.specs.Steps.{refusing, channel_of, dwell_of, opening_at, aim_of, aim_at, rate_at};
-ghost use Rattle.steps.specs.Parts.{double_in, aim_fault, rate_fault, unrated};
-ghost use Rattle.steps.specs.Steps.{is_distance, sped, aimed_by, move_at, step_at, beyond_at};
+ghost use Rattle.steps.specs.Judging.{judged_point};
+ghost use Rattle.steps.specs.Steps.{channel_of, dwell_of, opening_at, aim_of, aim_at, rate_at, is_distance, move_at, step_at, beyond_at};
+ghost use Rattle.steps.specs.Parts.{double_in, unrated, judged_move};
 
-use crate::frames::{double_at, frame_fault};
+use crate::frames::{CHANNEL, DISTANCE, DWELL, Field, SPEED, TARGET};
 use crate::judging::{judge_point, judge_speed};
-use crate::{
-    Aim, Ending, Fault, Judged, Move, Opening, Pair, Rate, SetPoint, Step, TOO_MANY, WRONG_CHANNEL,
-};
-use digits::words::byte_at;
-
-// A list that ends with a fault.
-fn refused(f: Fault) -> Step
-    ensures { result ≡ refusing f }
-{
-    Step::Last(Ending::Refused(f))
-}
+use crate::{Cause, Fault, Move, Opening, Pair, SetPoint, Step};
 
 // A channel's byte.
-fn channel_of(b: u8, at: usize) -> Opening
+fn channel_of(b: u8, at: usize) -> Result<Opening, Fault>
     ensures { result ≡ channel_of b at }
 {
     if b <= 15 {
-        Opening::Channel(b)
+        Ok(Opening::Channel(b))
     } else {
-        Opening::Bad(Fault {
-            number: WRONG_CHANNEL,
-            offset: at,
-        })
+        Err(Cause::WrongChannel.at(at))
     }
 }
 
 // A dwell's double.
-fn dwell_of(x: f64, at: usize) -> Opening
-    ensures { result ≡ dwell_of x (judged_point (Dwell x)) at }
+fn dwell_of(x: f64, at: usize) -> Result<Opening, Fault>
+    ensures { result ≡ dwell_of x at }
 {
-    match judge_point(SetPoint::Dwell(x)) {
-        Judged::Number(n) => Opening::Dwelling(x, n),
-        Judged::Unfit(k) => Opening::Bad(Fault {
-            number: k,
-            offset: at,
-        }),
-    }
+    let n = judge_point(SetPoint::Dwell(x)).map_err(|cause| cause.at(at))?;
+    Ok(Opening::Dwelling(x, n))
 }
 
 // The first field of a step.
-fn opening_at(list: &[u8], at: usize) -> Opening
-    ensures { result ≡ opening_at list.now at }
+fn opening_at(field: Field) -> Result<Opening, Fault>
+    ensures { result ≡ opening_at field.entry.list.now field.entry.at }
 {
-    let fault = frame_fault(list, at, 1, 5);
-    if fault == 0 {
-        if byte_at(list, at) == 1 {
-            channel_of(byte_at(list, at + 3), at)
-        } else {
-            dwell_of(double_at(list, at), at)
-        }
+    if field.frame(CHANNEL, DWELL)? == CHANNEL {
+        channel_of(field.channel(), field.at)
     } else {
-        Opening::Bad(Fault {
-            number: fault,
-            offset: at,
-        })
+        dwell_of(field.double(), field.at)
     }
 }
 
-// The set-point of a move.
-fn aim_of(relative: bool, x: f64) -> SetPoint
-    ensures { result ≡ aim_of relative x }
-{
-    if relative {
-        SetPoint::Distance(x)
-    } else {
-        SetPoint::Target(x)
+impl SetPoint {
+    // The set-point of a move.
+    fn aim_of(relative: bool, x: f64) -> SetPoint
+        ensures { result ≡ aim_of relative x }
+    {
+        if relative {
+            SetPoint::Distance(x)
+        } else {
+            SetPoint::Target(x)
+        }
+    }
+
+    fn is_distance(self) -> bool
+        ensures { result ≡ is_distance self }
+    {
+        matches!(self, SetPoint::Distance(_))
+    }
+
+    fn double(self) -> f64
+        ensures { result ≡ double_in self }
+    {
+        match self {
+            SetPoint::Target(x) | SetPoint::Distance(x) | SetPoint::Dwell(x) => x,
+        }
     }
 }
 
 // The field of a target or a distance.
-fn aim_at(list: &[u8], at: usize) -> Aim
-    ensures { result ≡ aim_at list.now at }
+fn aim_at(field: Field) -> Result<SetPoint, Fault>
+    ensures { result ≡ aim_at field.entry.list.now field.entry.at }
 {
-    let fault = frame_fault(list, at, 2, 3);
-    if fault == 0 {
-        Aim::Point(aim_of(byte_at(list, at) == 3, double_at(list, at)))
-    } else {
-        Aim::NoPoint(Fault {
-            number: fault,
-            offset: at,
-        })
-    }
+    let tag = field.frame(TARGET, DISTANCE)?;
+    Ok(SetPoint::aim_of(tag == DISTANCE, field.double()))
 }
 
 // The field of a speed.
-fn rate_at(list: &[u8], at: usize) -> Rate
-    ensures { result ≡ rate_at list.now at }
+fn rate_at(field: Field) -> Result<f64, Fault>
+    ensures { result ≡ rate_at field.entry.list.now field.entry.at }
 {
-    let fault = frame_fault(list, at, 4, 4);
-    if fault == 0 {
-        Rate::Speed(double_at(list, at))
-    } else {
-        Rate::NoSpeed(Fault {
-            number: fault,
-            offset: at,
-        })
-    }
+    field.frame(SPEED, SPEED)?;
+    Ok(field.double())
 }
 
-// What refuses a target's field; a field that is good has 0 for it.
-fn aim_fault(aim: Aim) -> Fault
-    ensures { result ≡ aim_fault aim }
-{
-    match aim {
-        Aim::Point(_) => Fault {
-            number: 0,
-            offset: 0,
-        },
-        Aim::NoPoint(f) => f,
-    }
-}
-
-// What refuses a speed's field, likewise.
-fn rate_fault(rate: Rate) -> Fault
-    ensures { result ≡ rate_fault rate }
-{
-    match rate {
-        Rate::Speed(_) => Fault {
-            number: 0,
-            offset: 0,
-        },
-        Rate::NoSpeed(f) => f,
-    }
-}
-
-fn is_distance(p: SetPoint) -> bool
-    ensures { result ≡ is_distance p }
-{
-    match p {
-        SetPoint::Target(_) => false,
-        SetPoint::Distance(_) => true,
-        SetPoint::Dwell(_) => false,
-    }
-}
-
-// The double of a set-point.
-fn double_in(p: SetPoint) -> f64
-    ensures { result ≡ double_in p }
-{
-    match p {
-        SetPoint::Target(x) => x,
-        SetPoint::Distance(x) => x,
-        SetPoint::Dwell(x) => x,
-    }
-}
-
-// A target whose speed's field is refused. "the first fault in the list counts": its own fault comes before.
-fn judge_alone(p: SetPoint, at: usize, fault: Fault) -> Step
+// What refuses a move whose speed's field is refused. "the first fault in the list counts": its target's own fault comes before.
+fn judge_alone(p: SetPoint, at: usize, fault: Fault) -> Fault
     ensures { result ≡ unrated at fault (judged_point p) }
 {
     match judge_point(p) {
-        Judged::Number(_) => refused(fault),
-        Judged::Unfit(k) => refused(Fault {
-            number: k,
-            offset: at,
-        }),
-    }
-}
-
-// The speed of a move whose target is good.
-fn judge_rate(channel: u8, relative: bool, place: u32, x: f64, at: usize) -> Step
-    ensures { result ≡ sped channel relative place at (judged_speed x) }
-{
-    match judge_speed(x) {
-        Judged::Number(v) => Step::Drive(Move {
-            channel: channel,
-            relative: relative,
-            place: place,
-            speed: v,
-        }),
-        Judged::Unfit(k) => refused(Fault {
-            number: k,
-            offset: at,
-        }),
+        Ok(_) => fault,
+        Err(cause) => cause.at(at),
     }
 }
 
 // A move, by its two doubles; its target's field stands at `at`.
-fn judge_move(channel: u8, relative: bool, pair: Pair, at: usize) -> Step
+fn judge_move(channel: u8, relative: bool, pair: Pair, at: usize) -> Result<Step, Fault>
     requires { at + 11 < 18446744073709551616 }
-    ensures { result ≡ aimed_by channel relative at (Speed pair.speed) (judged_point (aim_of relative pair.target)) }
+    ensures { result ≡ judged_move channel relative pair.target pair.speed at }
 {
-    match judge_point(aim_of(relative, pair.target)) {
-        Judged::Number(p) => judge_rate(channel, relative, p, pair.speed, at + 11),
-        Judged::Unfit(k) => refused(Fault {
-            number: k,
-            offset: at,
-        }),
-    }
+    let point = SetPoint::aim_of(relative, pair.target);
+    let place = judge_point(point).map_err(|cause| cause.at(at))?;
+    let speed = judge_speed(pair.speed).map_err(|cause| cause.at(at + 11))?;
+    Ok(Step::Drive(Move {
+        channel,
+        relative,
+        place,
+        speed,
+    }))
 }
 
-// What follows a channel's field.
-fn move_at(list: &[u8], at: usize, channel: u8) -> Step
-    ensures { result ≡ move_at list.now at channel }
+// What follows a channel's field. Each answer is taken apart by `let .. else` (docs/DECISIONS.md, "Language forms"), whose else binds
+// nothing, so that it stands in a local.
+fn move_at(field: Field, channel: u8) -> Result<Step, Fault>
+    ensures { result ≡ move_at field.entry.list.now field.entry.at channel }
 {
-    let aim = aim_at(list, at);
-    let Aim::Point(point) = aim else {
-        return refused(aim_fault(aim));
+    let aim = aim_at(field);
+    let Ok(point) = aim else {
+        return Err(aim.unwrap_err());
     };
-    let rate = rate_at(list, at + 11);
-    let Rate::Speed(speed) = rate else {
-        return judge_alone(point, at, rate_fault(rate));
+    let rate = rate_at(field.after(11));
+    let Ok(speed) = rate else {
+        return Err(judge_alone(point, field.at, rate.unwrap_err()));
     };
     let pair = Pair {
-        target: double_in(point),
-        speed: speed,
+        target: point.double(),
+        speed,
     };
-    judge_move(channel, is_distance(point), pair, at)
+    judge_move(channel, point.is_distance(), pair, field.at)
 }
 
-// The step at a place.
-pub fn step_at(list: &[u8], at: usize) -> Step
+// The step at a place; none where the list ends there.
+pub fn step_at(list: &[u8], at: usize) -> Result<Option<Step>, Fault>
     ensures { result ≡ step_at list.now at }
 {
-    if list.len() <= at {
-        return Step::Last(Ending::Complete);
+    let field = Field { list, at };
+    if field.is_past() {
+        return Ok(None);
     }
-    match opening_at(list, at) {
-        Opening::Channel(c) => move_at(list, at + 4, c),
+    let step = match opening_at(field)? {
+        Opening::Channel(c) => move_at(field.after(4), c)?,
         Opening::Dwelling(x, n) => Step::Wait(x, n),
-        Opening::Bad(f) => refused(f),
-    }
+    };
+    Ok(Some(step))
 }
 
-// What stands at a place after the last step that a list may have.
-pub fn beyond_at(list: &[u8], at: usize) -> Ending
+// What stands at a place after the last step that a list may have: nothing, or what refuses the list.
+pub fn beyond_at(list: &[u8], at: usize) -> Result<(), Fault>
     ensures { result ≡ beyond_at list.now at }
 {
-    if list.len() <= at {
-        return Ending::Complete;
+    let field = Field { list, at };
+    if field.is_past() {
+        return Ok(());
     }
-    let too_many = Fault {
-        number: TOO_MANY,
-        offset: at,
-    };
-    match opening_at(list, at) {
-        Opening::Channel(_) => Ending::Refused(too_many),
-        Opening::Dwelling(_, _) => Ending::Refused(too_many),
-        Opening::Bad(f) => Ending::Refused(f),
-    }
+    opening_at(field)?;
+    Err(Cause::TooMany.at(at))
 }

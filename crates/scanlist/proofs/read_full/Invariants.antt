@@ -1,8 +1,8 @@
-use Rattle.std.proofs.Common.{◌-◌, ◌≤◌, length}
+use Rattle.std.proofs.Common.{◌≤◌, length}
 use Rattle.scanlist.proofs.read_full.Given as goal
 
-abbrev pub invariant-loop-n : goal.invariant-loop-n
-invariant-loop-n g l = l.n ≤ length l.list
+abbrev pub invariant-loop-from : goal.invariant-loop-from
+invariant-loop-from g l = length l.left ≤ l.size
 
-abbrev pub decreases-loop-n : goal.decreases-loop-n
-decreases-loop-n g l = length l.list - l.n
+abbrev pub decreases-loop-from : goal.decreases-loop-from
+decreases-loop-from g l = length l.left

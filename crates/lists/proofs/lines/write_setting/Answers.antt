@@ -1,15 +1,9 @@
 -- `lists::lines::write_setting` meets its contract. Assumes nothing.
-use mathlib.Core.Path.{◌≡◌}
-use native.Mathlib.Omega.{arith}
-use Prim.Native.Nat.{◌%◌}
-use Rattle.text.specs.Text.{bytes, hex_digit}
-use Rattle.lists.specs.Lines.{setting_text, total_text}
+use Rattle.text.specs.Text.{bytes}
+use Rattle.lists.specs.Lines.{setting_text}
+use Rattle.lists.proofs.OutLaws.{wrote_more}
 use Rattle.lists.proofs.lines.write_setting.Goals as goal
 
 pub returns : goal.returns
-unfolding setting_text total_text bytes
-returns c =
-    let m = c.args.m in
-    let low : m.channel % 16 ≡ m.channel = omega arith in
-    let digit : c.hex_digit.result ≡ hex_digit m.channel = rw (c.hex_digit.ensures, low) in
-    rw (← digit) c.write_numbered.ensures
+unfolding setting_text bytes
+returns c = wrote_more c.write_head-k.ensures c.write_head-k.auto.out c.write_then.ensures c.write_then.auto.out
