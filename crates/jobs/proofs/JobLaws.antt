@@ -14,7 +14,7 @@ use Rattle.text.specs.Text.{digits_at_front, value_of, number_at_front}
 use Rattle.text.specs.declared.decimal.Number.TheVariants.{Nothing, Read}
 use Rattle.text.proofs.TextLaws.{between}
 use Rattle.jobs.specs.declared.Job.TheVariants.{Wait}
-use Rattle.jobs.proofs.OutLaws.{whole_rest}
+use Rattle.std.proofs.lemmas.List.{take_rest}
 use Rattle.jobs.specs.Jobs.{is_ticks, job_if, wait_of, lettered, job_of}
 
 -- A number that is read is all the digits at the front, of which there is one at least.
@@ -37,7 +37,7 @@ pub job_two : (first : Bool) (s : List ℕ) → 2 ≤ length s
 unfolding job_of
 job_two first [] h = absurd (omega arith)
 job_two first (k ∷ []) h = absurd (omega arith)
-job_two first (k ∷ b ∷ s) h = rw (whole_rest (k ∷ b ∷ s) 2)
+job_two first (k ∷ b ∷ s) h = rw (take_rest (k ∷ b ∷ s) 2)
 
 -- A shorter line is none.
 pub job_short : (first : Bool) (s : List ℕ) → length s < 2 → job_of first s ≡ None

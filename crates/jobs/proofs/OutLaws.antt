@@ -2,18 +2,18 @@
 use Prim.Native.Char.{code}
 use Prim.Native.Nat.{ℕ, zero, suc, ◌+◌, ◌-◌, ◌*◌, ◌<◌, ◌≤◌}
 use mathlib.Core.Path.{◌≡◌, refl, sym, ◌∙◌}
-use mathlib.Core.List.{List, [], ◌∷◌, ◌++◌, append_assoc}
+use mathlib.Core.List.{List, [], ◌∷◌, ◌++◌}
 use mathlib.Core.Bool.{Bool, true, false, cond}
 use native.Mathlib.Nat.{zero-add}
 use native.Mathlib.Numerals.{add-one}
 use native.Mathlib.Omega.{arith}
 use lib.Dec.{eqb}
 use lib.ListN.{length, take, drop, get_or, set, length-append, length-drop}
-use lib.Seq.{take_all, take-suc, length-take-le}
+use lib.Seq.{take_all}
 use Rattle.digits.specs.Bytes.{put, gather}
 use Rattle.digits.specs.Places.{origin}
 use Rattle.text.specs.Text.{Wrote, bytes, hex_digit}
-use Rattle.digits.proofs.PutLaws.{stores_put, put_after, put_rest, put_length}
+use Rattle.digits.proofs.PutLaws.{put_none, stores_put, put_after, put_rest, put_length}
 use Rattle.text.proofs.TextLaws.{decimal_within, signed_within}
 use Rattle.jobs.specs.Texts.{plain_text, reply_text, signed_text, net_text, net_texts}
 
@@ -33,7 +33,11 @@ text_byte t x v n e h =
     let l : length (put t 0 x) ≡ length t = put_length t 0 x (omega arith) in
     rw (set_put (put t 0 x) n v (omega arith)) (text_more t x (v ∷ []) n e (omega arith))
 
--- The same of what a writer leaves: a byte more,
+-- The same of what a writer leaves: nothing,
+pub wrote_none : (t : List ℕ) → Wrote t t [] 0
+wrote_none t = record { count = refl; buffer = sym (put_none t 0) }
+
+-- a byte more,
 pub wrote_byte : (t o x : List ℕ) (v n : ℕ) → n < length t → Wrote t o x n → Wrote t (set o n v) (x ++ (v ∷ [])) (n + 1)
 wrote_byte t o x v n h w =
     record { count = rw length-append (omega (arith, w.count)); buffer = rw w.buffer (text_byte t x v n w.count h) }
@@ -49,25 +53,6 @@ wrote_more t o x o₁ y n r m e h w v =
           rw (v.buffer, ← long, put_rest o y n (omega (arith, v.count)), w.buffer)
           (text_more t x y n w.count (omega arith));
     }
-
--- what is left of a text is all of it after its front
-pub whole_rest : (s : List ℕ) (n : ℕ) → take (length s - n) (drop n s) ≡ drop n s
-whole_rest s n = take_all (length s - n) (drop n s) (rw length-drop (omega arith))
-
--- within a list it does not matter what would stand past its end
-pub within_any : (s : List ℕ) (i a b : ℕ) → i < length s → get_or s i a ≡ get_or s i b
-within_any [] i a b h = absurd (omega arith)
-within_any (x ∷ s) zero a b h = refl
-within_any (x ∷ s) (suc i) a b h = within_any s i a b (omega arith)
-
--- one more byte of a text that is copied
-pub copy_more : (t s : List ℕ) (i : ℕ) → i < length s → i < length t
-    → set (put t 0 (take i s)) i (get_or s i 0) ≡ put t 0 (take (i + 1) s)
-copy_more t s i h l =
-    let e : length (take i s) ≡ i = length-take-le i s (omega arith) in
-    let m : length (put t 0 (take i s)) ≡ length t = put_length t 0 (take i s) (omega arith) in
-    rw (set_put (put t 0 (take i s)) i (get_or s i 0) (omega arith), add-one i, take-suc s i 0 h)
-    (text_more t (take i s) (get_or s i 0 ∷ []) i (sym e) (omega arith))
 
 -- a reply that has a byte stands as it is, and either way the text has no more than one byte more
 pub reply_some : (s : List ℕ) → 0 < length s → reply_text s ≡ s

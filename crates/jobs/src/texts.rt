@@ -46,6 +46,7 @@ pub fn write_command(out: &mut [u8; ROOM], outcome: u32, reply: &[u8; 32]) -> us
 }
 
 // A channel's net, which is not written where it is 0.
+#[tactic(auto, using(text::proofs::TextLaws::signed_within))]
 fn write_net(out: &mut [u8], c: u8, net: u32) -> usize
     requires { (14 ≤ length out.old) × (c < 16) }
     ensures { Wrote out.old out.new (net_text c net) result }
@@ -56,7 +57,7 @@ fn write_net(out: &mut [u8], c: u8, net: u32) -> usize
     out[0] = b' ';
     out[1] = hex_digit(c);
     out[2] = b':';
-    write_signed(&mut out[3..], 1, net) + 3
+    3 + write_signed(&mut out[3..], 1, net)
 }
 
 // The number of the last tick, and the nets in the channels' order.

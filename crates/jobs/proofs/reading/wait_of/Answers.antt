@@ -28,4 +28,3 @@ returns-then-count-s c =
 pub returns-else-count-s : goal.returns-else-count-s
 returns-else-count-s c =
     rw (wait_read c.args.s.now c.in-Read.value c.in-Read.count (sym c.number_at.ensures ∙ c.in-Read.is), ← c.is_ticks.ensures, c.if-count-s.false)
-

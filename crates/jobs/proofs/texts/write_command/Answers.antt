@@ -1,7 +1,7 @@
 -- `jobs::texts::write_command` meets its contract. Assumes nothing.
 use Prim.Native.Char.{code}
-use Rattle.std.proofs.Common.{◌+◌, ◌/◌, ◌%◌, take, length-take, ◌++◌, append_assoc, arith}
-use Rattle.jobs.specs.Texts.{plain_text, command_text}
+use Rattle.std.proofs.Common.{◌+◌, ◌/◌, ◌%◌, take, length-take, append_assoc, arith}
+use Rattle.jobs.specs.Texts.{command_text}
 use Rattle.jobs.proofs.OutLaws.{plain_within, reply_within, wrote_byte, wrote_more}
 use Rattle.jobs.proofs.texts.write_command.Goals as goal
 

@@ -1,5 +1,5 @@
 -- `jobs::holding::Line::keep` meets its contract. Assumes nothing.
-use Rattle.std.proofs.Common.{◌≡◌, sym, ◌∙◌, arith, length, take, add-one}
+use Rattle.std.proofs.Common.{◌≡◌, arith, length, take, add-one}
 use lib.Seq.{length-take-le, take-suc-set}
 use borrow.Author.Tests.{lt-ltb, le-ltb}
 use Rattle.jobs.specs.Holding.{kept}
