@@ -8,8 +8,7 @@ use native.Mathlib.Nat.{zero-add}
 use native.Mathlib.Numerals.{add-one}
 use native.Mathlib.Omega.{arith}
 use lib.Dec.{eqb}
-use lib.ListN.{length, take, drop, get_or, set, length-append, length-drop}
-use lib.Seq.{take_all}
+use lib.ListN.{length, take, drop, get_or, set, length-append}
 use Rattle.digits.specs.Bytes.{put, gather}
 use Rattle.digits.specs.Places.{origin}
 use Rattle.text.specs.Text.{Wrote, bytes, hex_digit}
