@@ -9,98 +9,55 @@
 
 #![tactic(auto)]
 
-ghost use Rattle.std.specs.Prelude.{◌≡◌, ◌≤◌, length};
-ghost use Rattle.jobs.specs.Holding.{held_size};
-
-use script::taking::{take_end, take_run};
-use std::io::{Read, Write};
+use jobs::texts::ROOM;
+use script::taking::Reading;
+use std::io::{self, Read, Write};
 use urqolina::urqolina_fresh;
 
-// What stands between two reads: whether the line is the first one, how many bytes of it are held, and whether there is more to read.
-#[derive(Clone, Copy)]
-struct Turn {
-    first: bool,
-    held: usize,
-    more: bool,
-}
-
-// Prints what some bytes of the input print. Where the output takes no more, nothing more is read.
+// Prints what some bytes of the input print, as far as the output takes it.
 fn print_bytes<W: Write>(
     to: &mut W,
     table: &mut [u8],
-    line: &mut [u8],
-    first: bool,
-    held: usize,
+    reading: &mut Reading,
     bytes: &[u8],
-) -> Turn
-    requires { (length line.old ≡ held_size) × (held ≤ held_size) }
-    ensures { result.held ≤ held_size }
-{
+) -> io::Result<()> {
     let mut out = [0u8; 65536];
-    let mut opening = first;
-    let mut kept = held;
-    let mut at: usize = 0;
-    let mut more = true;
-    while more && at < bytes.len() {
-        let run = take_run(table, line, opening, kept, &bytes[at..], &mut out);
-        let n = run.count;
-        more = to.write_all(&out[..n]).is_ok();
-        opening = run.first;
-        kept = run.held;
-        at += run.read;
+    let mut left = bytes;
+    while !left.is_empty() {
+        let run = reading.take_run(table, left, &mut out);
+        to.write_all(&out[..run.count])?;
+        left = &left[run.read..];
     }
-    Turn {
-        first: opening,
-        held: kept,
-        more: more,
-    }
+    Ok(())
 }
 
-// Reads once, and prints what came.
+// Reads once, prints what came, and answers how many bytes that were: none at the end.
 fn read_some<R: Read, W: Write>(
     from: &mut R,
     to: &mut W,
     table: &mut [u8],
-    line: &mut [u8],
-    first: bool,
-    held: usize,
-) -> Turn
-    requires { (length line.old ≡ held_size) × (held ≤ held_size) }
-    ensures { result.held ≤ held_size }
-{
+    reading: &mut Reading,
+) -> io::Result<usize> {
     let mut input = [0u8; 65536];
-    let n = from.read(&mut input).unwrap_or(0);
-    if n == 0 {
-        return Turn {
-            first: first,
-            held: held,
-            more: false,
-        };
-    }
-    print_bytes(to, table, line, first, held, &input[..n])
+    let n = from.read(&mut input)?;
+    print_bytes(to, table, reading, &input[..n])?;
+    Ok(n)
 }
 
-// Reads to the end, or to a read that fails, and answers how many bytes of the last line are held, and whether it is the first one. A
-// proved loop has to end, and nothing says that the input does, so the turns are counted, up to a number that no run reaches.
-fn read_all<R: Read, W: Write>(from: &mut R, to: &mut W, table: &mut [u8], line: &mut [u8]) -> Turn
-    requires { length line.old ≡ held_size }
-    ensures { result.held ≤ held_size }
-{
-    let mut first = true;
-    let mut held: usize = 0;
+// Reads to the end, or to a read or a write that fails. A proved loop has to end, and nothing says that the input does, so the turns are
+// counted, up to a number that no run reaches.
+fn read_all<R: Read, W: Write>(
+    from: &mut R,
+    to: &mut W,
+    table: &mut [u8],
+    reading: &mut Reading,
+) -> io::Result<()> {
     for _ in 0..u64::MAX {
-        let turn = read_some(from, to, table, line, first, held);
-        first = turn.first;
-        held = turn.held;
-        if !turn.more {
+        if read_some(from, to, table, reading)? == 0 {
             break;
         }
     }
-    Turn {
-        first: first,
-        held: held,
-        more: false,
-    }
+    Ok(())
 }
 
 fn main(rt: HostRuntime) {
@@ -108,9 +65,9 @@ fn main(rt: HostRuntime) {
     let mut output = rt.stdout();
     let mut table = [0; 1088];
     urqolina_fresh(&mut table, 0);
-    let mut line = [0u8; 96];
-    let last = read_all(&mut input, &mut output, &mut table, &mut line);
-    let mut out = [0u8; 256];
-    let n = take_end(&mut table, &line, last.first, last.held, &mut out);
+    let mut reading = Reading::new();
+    let _ = read_all(&mut input, &mut output, &mut table, &mut reading);
+    let mut out = [0; ROOM];
+    let n = reading.take_end(&mut table, &mut out);
     let _ = output.write_all(&out[..n]);
 }
