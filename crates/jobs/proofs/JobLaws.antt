@@ -29,7 +29,7 @@ read_parts s v n e = go (leb 1 (digits_at_front s) && leb (digits_at_front s) 10
         let c : n ≡ digits_at_front s = cc in
         let w : v ≡ value_of (take (digits_at_front s) s) = cc in
         (rw (c, w), c, omega (arith, (between 1 10 (digits_at_front s) p).0))
-    go false p e = let z : ◌≡◌ {A = ℕ} 0 1 = cc in absurd (omega arith)
+    go false p e = cc
 
 -- A line of two bytes or more: the second is a blank, and the first is the letter.
 pub job_two : (first : Bool) (s : List ℕ) → 2 ≤ length s
@@ -90,7 +90,7 @@ wait_nothing s e = go (leb 1 (length s) && leb (length s) 5) (eqb (digits_at_fro
         let b = between 1 5 (length s) p in
         let d : digits_at_front s ≡ length s = eqb-true (digits_at_front s) (length s) q in
         let f = few_read s (omega (arith, b.0)) (omega (arith, b.1)) in
-        let z : ◌≡◌ {A = ℕ} 0 1 = cc in absurd (omega arith)
+        cc
     go true false p q = refl
     go false u p q = refl
 
@@ -100,5 +100,5 @@ ticks_within true first n e = go (not (eqb first (code "0"))) e
   where
     go : (u : Bool) → (u && leb n 10000) ≡ true → n ≤ 10000
     go true e = leb-true n 10000 e
-    go false e = let z : ◌≡◌ {A = ℕ} 0 1 = cc in absurd (omega arith)
-ticks_within false first n e = let z : ◌≡◌ {A = ℕ} 0 1 = cc in absurd (omega arith)
+    go false e = cc
+ticks_within false first n e = cc

@@ -33,7 +33,8 @@ fn write_reply(out: &mut [u8], reply: &[u8]) -> usize
     }
 }
 
-// The number of a command and its reply; the command's result says both the number and how long the reply is.
+// The number of a command and its reply. The command's result is that of the C interface, one number: it says both the number and how
+// long the reply is.
 #[tactic(auto, using(crate::proofs::OutLaws::plain_within, crate::proofs::OutLaws::reply_within))]
 pub fn write_command(out: &mut [u8; ROOM], outcome: u32, reply: &[u8; 32]) -> usize
     requires { outcome / 256 ≤ 32 }

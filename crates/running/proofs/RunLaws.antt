@@ -9,7 +9,7 @@ use native.Mathlib.Omega.{arith}
 use native.Mathlib.Numerals.{add-one}
 use lib.Dec.{eqb, leb}
 use lib.ListN.{length, take, drop, get_or, replicate, length-append, length-take}
-use Rattle.text.specs.Text.{bytes, digit_value, is_hex, hex_value, digits_at_front, value_of}
+use Rattle.text.specs.Text.{bytes, digits_at_front, value_of}
 use Rattle.drive.specs.declared.Verdict.{Verdict}
 use Rattle.drive.specs.declared.Verdict.TheVariants.{Done, NoForm, WrongSize, NotSound}
 use Rattle.drive.specs.Numbers.{number_of}
@@ -28,7 +28,7 @@ use Rattle.drive.proofs.NumberLaws.{numbered}
 use Rattle.urqolina.specs.Calls.{fresh_call, command_call, reading_call}
 use Rattle.jobs.specs.declared.Job.{Job}
 use Rattle.jobs.specs.declared.Job.TheVariants.{Send, Touch, Wait, FourMotors}
-use Rattle.jobs.specs.Jobs.{is_contacts, is_ticks, job_if, touch_of, wait_of, card_of, lettered, job_of}
+use Rattle.jobs.specs.Jobs.{is_ticks, job_if, touch_of, wait_of, card_of, lettered, job_of}
 use Rattle.jobs.specs.Bounds.{most_ticks}
 use Rattle.jobs.specs.Texts.{command_text, waited_text}
 use Rattle.running.specs.Running.{Waited, tick_of, waited, sent, touched, ticked, renewed, job_done, line_done}
@@ -106,60 +106,56 @@ line_within first t line = rw length-append (omega (arith, job_within t line (jo
 -- A line that sends a command has its letter and its blank.
 pub send_two : (first : Bool) (s : List ℕ) → job_of first s ≡ Some Send → 2 ≤ length s
 unfolding job_of
-send_two first [] e = let z : ◌≡◌ {A = ℕ} 0 1 = cc in absurd (omega arith)
-send_two first (k ∷ []) e = let z : ◌≡◌ {A = ℕ} 0 1 = cc in absurd (omega arith)
+send_two first [] e = cc
+send_two first (k ∷ []) e = cc
 send_two first (k ∷ b ∷ s) e = omega arith
+
+-- What is asked for if a test holds: the test holds.
+asked : (t : Bool) (o : Option Job) (j : Job) → job_if t o ≡ Some j → (t ≡ true) × (o ≡ Some j)
+asked true o j e = (refl, e)
+asked false o j e = cc
 
 -- A line that waits has 10000 ticks at most.
 touch_waits : (s : List ℕ) (n : ℕ) → touch_of s ≡ Some (Wait n) → ⊥
 unfolding touch_of
-touch_waits s n e =
-    go (eqb (length s) 3 && is_hex (get_or s 0 0) && eqb (get_or s 1 0) (code " ") && is_contacts (get_or s 2 0)) e
+touch_waits s n e = apart _ _ (asked _ _ _ e).1
   where
-    go : (t : Bool) → job_if t (Some (Touch (hex_value (get_or s 0 0)) (digit_value (get_or s 2 0)))) ≡ Some (Wait n) → ⊥
-    go true e = let z : ◌≡◌ {A = ℕ} 0 1 = cc in omega arith
-    go false e = let z : ◌≡◌ {A = ℕ} 0 1 = cc in omega arith
+    apart : (x c : ℕ) → Some (Touch x c) ≡ Some (Wait n) → ⊥
+    apart x c e = cc
 
 wait_few : (s : List ℕ) (n : ℕ) → wait_of s ≡ Some (Wait n) → n ≤ most_ticks
 unfolding wait_of
 wait_few s n e =
-    go (leb 1 (length s) && leb (length s) 5 && eqb (digits_at_front s) (length s) && is_ticks (get_or s 0 0) (value_of s)) refl e
+    let t = leb 1 (length s) && leb (length s) 5 && eqb (digits_at_front s) (length s) in
+    let h = asked (t && is_ticks (get_or s 0 0) (value_of s)) (Some (Wait (value_of s))) (Wait n) e in
+    few (value_of s) h.1 (ticks_within t (get_or s 0 0) (value_of s) h.0)
   where
-    go : (t : Bool) → (leb 1 (length s) && leb (length s) 5 && eqb (digits_at_front s) (length s) && is_ticks (get_or s 0 0) (value_of s)) ≡ t
-        → job_if t (Some (Wait (value_of s))) ≡ Some (Wait n) → n ≤ most_ticks
-    go true p e =
-        let v : n ≡ value_of s = cc in
-        omega (arith, ticks_within (leb 1 (length s) && leb (length s) 5 && eqb (digits_at_front s) (length s)) (get_or s 0 0) (value_of s) p)
-    go false p e = let z : ◌≡◌ {A = ℕ} 0 1 = cc in absurd (omega arith)
+    few : (m : ℕ) → Some (Wait m) ≡ Some (Wait n) → m ≤ most_ticks → n ≤ most_ticks
+    few m e h = let p : m ≡ n = cc in omega arith
 
 card_waits : (first : Bool) (s : List ℕ) (n : ℕ) → card_of first s ≡ Some (Wait n) → ⊥
 unfolding card_of
-card_waits first s n e = go (eqb (length s) 1 && first && eqb (get_or s 0 0) (code "1")) e
+card_waits first s n e = apart (asked _ _ _ e).1
   where
-    go : (t : Bool) → job_if t (Some FourMotors) ≡ Some (Wait n) → ⊥
-    go true e = let z : ◌≡◌ {A = ℕ} 0 1 = cc in omega arith
-    go false e = let z : ◌≡◌ {A = ℕ} 0 1 = cc in omega arith
+    apart : Some FourMotors ≡ Some (Wait n) → ⊥
+    apart e = cc
 
 lettered_few : (first : Bool) (k : ℕ) (s : List ℕ) (n : ℕ) → lettered first k s ≡ Some (Wait n) → n ≤ most_ticks
 unfolding lettered
 lettered_few first k s n e = go (eqb k (code "C")) (eqb k (code "S")) (eqb k (code "T")) (eqb k (code "K")) e
   where
     go : (a b c d : Bool) → cond a (Some Send) (cond b (touch_of s) (cond c (wait_of s) (cond d (card_of first s) None))) ≡ Some (Wait n) → n ≤ most_ticks
-    go true b c d e = let z : ◌≡◌ {A = ℕ} 0 1 = cc in absurd (omega arith)
+    go true b c d e = cc
     go false true c d e = absurd (touch_waits s n e)
     go false false true d e = wait_few s n e
     go false false false true e = absurd (card_waits first s n e)
-    go false false false false e = let z : ◌≡◌ {A = ℕ} 0 1 = cc in absurd (omega arith)
+    go false false false false e = cc
 
 pub waits_few : (first : Bool) (s : List ℕ) (n : ℕ) → job_of first s ≡ Some (Wait n) → n ≤ most_ticks
 unfolding job_of
-waits_few first [] n e = let z : ◌≡◌ {A = ℕ} 0 1 = cc in absurd (omega arith)
-waits_few first (k ∷ []) n e = let z : ◌≡◌ {A = ℕ} 0 1 = cc in absurd (omega arith)
-waits_few first (k ∷ b ∷ s) n e = go (eqb b (code " ")) e
-  where
-    go : (t : Bool) → job_if t (lettered first k s) ≡ Some (Wait n) → n ≤ most_ticks
-    go true e = lettered_few first k s n e
-    go false e = let z : ◌≡◌ {A = ℕ} 0 1 = cc in absurd (omega arith)
+waits_few first [] n e = cc
+waits_few first (k ∷ []) n e = cc
+waits_few first (k ∷ b ∷ s) n e = lettered_few first k s n (asked _ _ _ e).1
 
 -- one tick more
 pub waited_more : (n : ℕ) (w : Waited) → waited (n + 1) w ≡ tick_of (waited n w)
