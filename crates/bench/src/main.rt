@@ -14,60 +14,64 @@ use script::taking::Reading;
 use std::io::{self, Read, Write};
 use urqolina::urqolina_fresh;
 
-// Prints what some bytes of the input print, as far as the output takes it.
-fn print_bytes<W: Write>(
-    to: &mut W,
-    table: &mut [u8],
-    reading: &mut Reading,
-    bytes: &[u8],
-) -> io::Result<()> {
-    let mut out = [0u8; 65536];
-    let mut left = bytes;
-    while !left.is_empty() {
-        let run = reading.take_run(table, left, &mut out);
-        to.write_all(&out[..run.count])?;
-        left = &left[run.read..];
-    }
-    Ok(())
+// What a script goes through: where it is read from and printed to, the table, and where it is read to.
+#[derive(Drop)]
+struct Bench<R, W> {
+    from: R,
+    to: W,
+    table: [u8; 1088],
+    reading: Reading,
 }
 
-// Reads once, prints what came, and answers how many bytes that were: none at the end.
-fn read_some<R: Read, W: Write>(
-    from: &mut R,
-    to: &mut W,
-    table: &mut [u8],
-    reading: &mut Reading,
-) -> io::Result<usize> {
-    let mut input = [0u8; 65536];
-    let n = from.read(&mut input)?;
-    print_bytes(to, table, reading, &input[..n])?;
-    Ok(n)
-}
-
-// Reads to the end, or to a read or a write that fails. A proved loop has to end, and nothing says that the input does, so the turns are
-// counted, up to a number that no run reaches.
-fn read_all<R: Read, W: Write>(
-    from: &mut R,
-    to: &mut W,
-    table: &mut [u8],
-    reading: &mut Reading,
-) -> io::Result<()> {
-    for _ in 0..u64::MAX {
-        if read_some(from, to, table, reading)? == 0 {
-            break;
+impl<R: Read, W: Write> Bench<R, W> {
+    // Prints what some bytes of the input print, as far as the output takes it.
+    fn print_bytes(&mut self, bytes: &[u8]) -> io::Result<()> {
+        let mut out = [0; 65536];
+        let mut left = bytes;
+        while !left.is_empty() {
+            let run = self.reading.take_run(&mut self.table, left, &mut out);
+            self.to.write_all(&out[..run.count])?;
+            left = &left[run.read..];
         }
+        Ok(())
     }
-    Ok(())
+
+    // Reads once, prints what came, and answers how many bytes that were: none at the end.
+    fn read_some(&mut self) -> io::Result<usize> {
+        let mut input = [0; 65536];
+        let n = self.from.read(&mut input)?;
+        self.print_bytes(&input[..n])?;
+        Ok(n)
+    }
+
+    // Reads to the end, or to a read or a write that fails. A proved loop has to end, and nothing says that the input does, so the turns
+    // are counted, up to a number that no run reaches.
+    fn read_all(&mut self) -> io::Result<()> {
+        for _ in 0..u64::MAX {
+            if self.read_some()? == 0 {
+                break;
+            }
+        }
+        Ok(())
+    }
+
+    // Prints what the last line prints, where it has no line feed.
+    fn print_end(&mut self) -> io::Result<()> {
+        let mut out = [0; ROOM];
+        let n = self.reading.take_end(&mut self.table, &mut out);
+        self.to.write_all(&out[..n])
+    }
 }
 
 fn main(rt: HostRuntime) {
-    let mut input = rt.stdin();
-    let mut output = rt.stdout();
     let mut table = [0; 1088];
     urqolina_fresh(&mut table, 0);
-    let mut reading = Reading::new();
-    let _ = read_all(&mut input, &mut output, &mut table, &mut reading);
-    let mut out = [0; ROOM];
-    let n = reading.take_end(&mut table, &mut out);
-    let _ = output.write_all(&out[..n]);
+    let mut bench = Bench {
+        from: rt.stdin(),
+        to: rt.stdout(),
+        table,
+        reading: Reading::new(),
+    };
+    let _ = bench.read_all();
+    let _ = bench.print_end();
 }
