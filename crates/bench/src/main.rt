@@ -14,7 +14,7 @@ use script::taking::Reading;
 use std::io::{self, Read, Write};
 use urqolina::urqolina_fresh;
 
-// What a script goes through: where it is read from and printed to, the table, and where it is read to.
+// A script in hand: where it is read from, where it prints to, the table, and how far it is read.
 #[derive(Drop)]
 struct Bench<R, W> {
     from: R,

@@ -1,5 +1,6 @@
 // A line of a script, run on a table: what it does to the table, and its text at the front of the buffer that the caller lends.
-// What a line does and prints is said in specs/.
+// What a line does and prints is said in specs/. The table and the buffer are lent side by side: a struct of both borrows would be made
+// anew at each call.
 
 #![tactic(auto)]
 

@@ -9,7 +9,7 @@ use jobs::holding::Line;
 use jobs::texts::ROOM;
 use running::run_line;
 
-// Where a script is read to: whether the line in hand is the first one, and what is held of it.
+// How far a script is read: whether the line in hand is the first one, and what is held of it.
 #[derive(Drop)]
 pub struct Reading {
     pub first: bool,
