@@ -9,108 +9,69 @@
 
 #![tactic(auto)]
 
-ghost use Rattle.std.specs.Prelude.{◌≡◌, ◌≤◌, length};
-ghost use Rattle.jobs.specs.Holding.{held_size};
-
-use script::taking::{take_end, take_run};
-use std::io::{Read, Write};
+use jobs::texts::ROOM;
+use script::taking::Reading;
+use std::io::{self, Read, Write};
 use urqolina::urqolina_fresh;
 
-// What stands between two reads: whether the line is the first one, how many bytes of it are held, and whether there is more to read.
-#[derive(Clone, Copy)]
-struct Turn {
-    first: bool,
-    held: usize,
-    more: bool,
+// A script in hand: where it is read from, where it prints to, the table, and how far it is read.
+#[derive(Drop)]
+struct Bench<R, W> {
+    from: R,
+    to: W,
+    table: [u8; 1088],
+    reading: Reading,
 }
 
-// Prints what some bytes of the input print. Where the output takes no more, nothing more is read.
-fn print_bytes<W: Write>(
-    to: &mut W,
-    table: &mut [u8],
-    line: &mut [u8],
-    first: bool,
-    held: usize,
-    bytes: &[u8],
-) -> Turn
-    requires { (length line.old ≡ held_size) × (held ≤ held_size) }
-    ensures { result.held ≤ held_size }
-{
-    let mut out = [0u8; 65536];
-    let mut opening = first;
-    let mut kept = held;
-    let mut at: usize = 0;
-    let mut more = true;
-    while more && at < bytes.len() {
-        let run = take_run(table, line, opening, kept, &bytes[at..], &mut out);
-        let n = run.count;
-        more = to.write_all(&out[..n]).is_ok();
-        opening = run.first;
-        kept = run.held;
-        at += run.read;
-    }
-    Turn {
-        first: opening,
-        held: kept,
-        more: more,
-    }
-}
-
-// Reads once, and prints what came.
-fn read_some<R: Read, W: Write>(
-    from: &mut R,
-    to: &mut W,
-    table: &mut [u8],
-    line: &mut [u8],
-    first: bool,
-    held: usize,
-) -> Turn
-    requires { (length line.old ≡ held_size) × (held ≤ held_size) }
-    ensures { result.held ≤ held_size }
-{
-    let mut input = [0u8; 65536];
-    let n = from.read(&mut input).unwrap_or(0);
-    if n == 0 {
-        return Turn {
-            first: first,
-            held: held,
-            more: false,
-        };
-    }
-    print_bytes(to, table, line, first, held, &input[..n])
-}
-
-// Reads to the end, or to a read that fails, and answers how many bytes of the last line are held, and whether it is the first one. A
-// proved loop has to end, and nothing says that the input does, so the turns are counted, up to a number that no run reaches.
-fn read_all<R: Read, W: Write>(from: &mut R, to: &mut W, table: &mut [u8], line: &mut [u8]) -> Turn
-    requires { length line.old ≡ held_size }
-    ensures { result.held ≤ held_size }
-{
-    let mut first = true;
-    let mut held: usize = 0;
-    for _ in 0..u64::MAX {
-        let turn = read_some(from, to, table, line, first, held);
-        first = turn.first;
-        held = turn.held;
-        if !turn.more {
-            break;
+impl<R: Read, W: Write> Bench<R, W> {
+    // Prints what some bytes of the input print, as far as the output takes it.
+    fn print_bytes(&mut self, bytes: &[u8]) -> io::Result<()> {
+        let mut out = [0; 65536];
+        let mut left = bytes;
+        while !left.is_empty() {
+            let run = self.reading.take_run(&mut self.table, left, &mut out);
+            self.to.write_all(&out[..run.count])?;
+            left = &left[run.read..];
         }
+        Ok(())
     }
-    Turn {
-        first: first,
-        held: held,
-        more: false,
+
+    // Reads once, prints what came, and answers how many bytes that were: none at the end.
+    fn read_some(&mut self) -> io::Result<usize> {
+        let mut input = [0; 65536];
+        let n = self.from.read(&mut input)?;
+        self.print_bytes(&input[..n])?;
+        Ok(n)
+    }
+
+    // Reads to the end, or to a read or a write that fails. A proved loop has to end, and nothing says that the input does, so the turns
+    // are counted, up to a number that no run reaches.
+    fn read_all(&mut self) -> io::Result<()> {
+        for _ in 0..u64::MAX {
+            if self.read_some()? == 0 {
+                break;
+            }
+        }
+        Ok(())
+    }
+
+    // Prints what the last line prints, where it has no line feed.
+    fn print_end(&mut self) -> io::Result<()> {
+        let mut out = [0; ROOM];
+        let n = self.reading.take_end(&mut self.table, &mut out);
+        self.to.write_all(&out[..n])
     }
 }
 
 fn main(rt: HostRuntime) {
-    let mut input = rt.stdin();
-    let mut output = rt.stdout();
     let mut table = [0; 1088];
     urqolina_fresh(&mut table, 0);
-    let mut line = [0u8; 96];
-    let last = read_all(&mut input, &mut output, &mut table, &mut line);
-    let mut out = [0u8; 256];
-    let n = take_end(&mut table, &line, last.first, last.held, &mut out);
-    let _ = output.write_all(&out[..n]);
+    let mut bench = Bench {
+        from: rt.stdin(),
+        to: rt.stdout(),
+        table,
+        reading: Reading::new(),
+    };
+    let _ = bench.read_all();
+    let _ = bench.print_end();
 }

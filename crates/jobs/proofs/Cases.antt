@@ -3,10 +3,11 @@ use Prim.Native.Nat.{◌+◌, ◌-◌, ◌*◌}
 use mathlib.Core.Path.{◌≡◌, refl}
 use mathlib.Core.List.{[], ◌∷◌, ◌++◌, map}
 use mathlib.Core.Bool.{true, false}
+use Rattle.std.proofs.Common.{Some, None}
 use lib.ListN.{replicate}
 use Rattle.digits.specs.Places.{origin}
 use Rattle.text.specs.Text.{bytes}
-use Rattle.jobs.specs.declared.Job.TheVariants.{Send, Touch, Wait, FourMotors, Unknown}
+use Rattle.jobs.specs.declared.Job.TheVariants.{Send, Touch, Wait, FourMotors}
 use Rattle.jobs.specs.Jobs.{lines_of, job_of}
 use Rattle.jobs.specs.Texts.{command_text, nets_after, waited_text}
 use Rattle.jobs.specs.Holding.{kept}
@@ -15,17 +16,17 @@ use Rattle.jobs.specs.Computing.{computing_jobs}
 -- lines, and what each asks for
 jobs :
     (map (job_of false) (lines_of (bytes "C REM\nC \nS F 7\nT 1\nT 10000"))
-    ≡ Send ∷ Send ∷ Touch 15 7 ∷ Wait 1 ∷ Wait 10000 ∷ [])
+    ≡ Some Send ∷ Some Send ∷ Some (Touch 15 7) ∷ Some (Wait 1) ∷ Some (Wait 10000) ∷ [])
     × (map (λ l. job_of false (bytes l))
     ("" ∷ "C" ∷ " C REM" ∷ "c REM" ∷ "C\tREM" ∷ "S" ∷ "S 0" ∷ "S 0 8" ∷ "S G 1" ∷ "S 0 1 " ∷ "S 0  1" ∷ "T" ∷ "T 0" ∷ "T 01" ∷ "T +1" ∷ "T 10001" ∷ "T 1 " ∷ "T 100000" ∷ "X 1" ∷ [])
-    ≡ Unknown ∷ Unknown ∷ Unknown ∷ Unknown ∷ Unknown ∷ Unknown ∷ Unknown ∷ Unknown ∷ Unknown ∷ Unknown ∷ Unknown ∷ Unknown ∷ Unknown ∷ Unknown ∷ Unknown ∷ Unknown ∷ Unknown ∷ Unknown ∷ Unknown ∷ [])
+    ≡ replicate 19 None)
 unfolding computing_jobs
 jobs = (refl, refl)
 
 -- 02 §7: exactly `K 1`, and as the first line alone
 cards :
     (map (λ l. job_of true (bytes l)) ("K 1" ∷ "K 0" ∷ "K 2" ∷ "K 01" ∷ "K 1 " ∷ "K 1\r" ∷ "K" ∷ "K " ∷ "K1" ∷ "k 1" ∷ "K 11" ∷ " K 1" ∷ "C REM" ∷ [])
-    ≡ FourMotors ∷ replicate 11 Unknown ++ (Send ∷ [])) × (job_of false (bytes "K 1") ≡ Unknown)
+    ≡ Some FourMotors ∷ replicate 11 None ++ (Some Send ∷ [])) × (job_of false (bytes "K 1") ≡ None)
 unfolding computing_jobs
 cards = (refl, refl)
 

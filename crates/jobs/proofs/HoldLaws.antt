@@ -40,3 +40,7 @@ kept_few held b h = go (ltb (length held) held_size) refl
 pub held_front : (s held : List ℕ) → take (length held) (put s 0 held) ≡ held
 unfolding put
 held_front s held = rw zero-add (take_at held (drop (length held) s) (length held) refl)
+
+-- So what a writer leaves at the front of a buffer is its text.
+pub wrote_take : (t o x : List ℕ) (n : ℕ) → Wrote t o x n → take n o ≡ x
+wrote_take t o x n w = rw (w.buffer, w.count) (held_front t x)

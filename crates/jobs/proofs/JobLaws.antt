@@ -1,10 +1,11 @@
 -- What a line asks for, from the parts that the code reads. Assumes nothing.
 use Prim.Native.Char.{code}
-use Prim.Native.Nat.{ℕ, ◌≤◌, ◌<◌}
+use Prim.Native.Nat.{ℕ, ◌-◌, ◌≤◌, ◌<◌}
 use mathlib.Core.Path.{◌≡◌, refl, sym}
 use mathlib.Core.List.{List, [], ◌∷◌}
 use mathlib.Core.Bool.{Bool, true, false, ◌&&◌, not, cond}
 use native.Mathlib.Omega.{arith}
+use Rattle.std.proofs.Common.{Some, None}
 use lib.Dec.{eqb, leb}
 use lib.ListN.{length, take, drop, get_or}
 use lib.Seq.{take-length}
@@ -12,7 +13,8 @@ use borrow.Author.Tests.{eqb-true, leb-true, le-leb, eq-eqb}
 use Rattle.text.specs.Text.{digits_at_front, value_of, number_at_front}
 use Rattle.text.specs.declared.decimal.Number.TheVariants.{Nothing, Read}
 use Rattle.text.proofs.TextLaws.{between}
-use Rattle.jobs.specs.declared.Job.TheVariants.{Wait, Unknown}
+use Rattle.jobs.specs.declared.Job.TheVariants.{Wait}
+use Rattle.std.proofs.lemmas.List.{take_rest}
 use Rattle.jobs.specs.Jobs.{is_ticks, job_if, wait_of, lettered, job_of}
 
 -- A number that is read is all the digits at the front, of which there is one at least.
@@ -27,17 +29,18 @@ read_parts s v n e = go (leb 1 (digits_at_front s) && leb (digits_at_front s) 10
         let c : n ≡ digits_at_front s = cc in
         let w : v ≡ value_of (take (digits_at_front s) s) = cc in
         (rw (c, w), c, omega (arith, (between 1 10 (digits_at_front s) p).0))
-    go false p e = let z : ◌≡◌ {A = ℕ} 0 1 = cc in absurd (omega arith)
+    go false p e = cc
 
 -- A line of two bytes or more: the second is a blank, and the first is the letter.
-pub job_two : (first : Bool) (s : List ℕ) → 2 ≤ length s → job_of first s ≡ job_if (eqb (get_or s 1 0) (code " ")) (lettered first (get_or s 0 0) (drop 2 s))
+pub job_two : (first : Bool) (s : List ℕ) → 2 ≤ length s
+    → job_of first s ≡ job_if (eqb (get_or s 1 0) (code " ")) (lettered first (get_or s 0 0) (take (length s - 2) (drop 2 s)))
 unfolding job_of
 job_two first [] h = absurd (omega arith)
 job_two first (k ∷ []) h = absurd (omega arith)
-job_two first (k ∷ b ∷ s) h = refl
+job_two first (k ∷ b ∷ s) h = rw (take_rest (k ∷ b ∷ s) 2)
 
 -- A shorter line is none.
-pub job_short : (first : Bool) (s : List ℕ) → length s < 2 → job_of first s ≡ Unknown
+pub job_short : (first : Bool) (s : List ℕ) → length s < 2 → job_of first s ≡ None
 unfolding job_of
 job_short first [] h = refl
 job_short first (k ∷ []) h = refl
@@ -54,7 +57,7 @@ no_more false b = refl
 
 -- T n, where a number stands there
 pub wait_read : (s : List ℕ) (v n : ℕ) → number_at_front s ≡ Read v n
-    → wait_of s ≡ job_if (eqb n (length s) && leb n 5 && is_ticks (get_or s 0 0) v) (Wait v)
+    → wait_of s ≡ job_if (eqb n (length s) && leb n 5 && is_ticks (get_or s 0 0) v) (Some (Wait v))
 unfolding wait_of
 wait_read s v n e = go (eqb n (length s)) refl
   where
@@ -62,8 +65,8 @@ wait_read s v n e = go (eqb n (length s)) refl
     p = read_parts s v n e
 
     go : (t : Bool) → eqb n (length s) ≡ t
-        → job_if (leb 1 (length s) && leb (length s) 5 && eqb (digits_at_front s) (length s) && is_ticks (get_or s 0 0) (value_of s)) (Wait (value_of s))
-        ≡ job_if (t && leb n 5 && is_ticks (get_or s 0 0) v) (Wait v)
+        → job_if (leb 1 (length s) && leb (length s) 5 && eqb (digits_at_front s) (length s) && is_ticks (get_or s 0 0) (value_of s)) (Some (Wait (value_of s)))
+        ≡ job_if (t && leb n 5 && is_ticks (get_or s 0 0) v) (Some (Wait v))
     go true q =
         let l : length s ≡ n = sym (eqb-true n (length s) q) in
         let w : value_of s ≡ v = rw (p.0, ← l, take-length s) in
@@ -77,17 +80,17 @@ unfolding number_at_front
 few_read s h l = rw (le-leb 1 (digits_at_front s) h, le-leb (digits_at_front s) 10 l)
 
 -- T n, where none does
-pub wait_nothing : (s : List ℕ) → number_at_front s ≡ Nothing → wait_of s ≡ Unknown
+pub wait_nothing : (s : List ℕ) → number_at_front s ≡ Nothing → wait_of s ≡ None
 unfolding wait_of
 wait_nothing s e = go (leb 1 (length s) && leb (length s) 5) (eqb (digits_at_front s) (length s)) refl refl
   where
     go : (t u : Bool) → (leb 1 (length s) && leb (length s) 5) ≡ t → eqb (digits_at_front s) (length s) ≡ u
-        → job_if (t && u && is_ticks (get_or s 0 0) (value_of s)) (Wait (value_of s)) ≡ Unknown
+        → job_if (t && u && is_ticks (get_or s 0 0) (value_of s)) (Some (Wait (value_of s))) ≡ None
     go true true p q =
         let b = between 1 5 (length s) p in
         let d : digits_at_front s ≡ length s = eqb-true (digits_at_front s) (length s) q in
         let f = few_read s (omega (arith, b.0)) (omega (arith, b.1)) in
-        let z : ◌≡◌ {A = ℕ} 0 1 = cc in absurd (omega arith)
+        cc
     go true false p q = refl
     go false u p q = refl
 
@@ -97,5 +100,5 @@ ticks_within true first n e = go (not (eqb first (code "0"))) e
   where
     go : (u : Bool) → (u && leb n 10000) ≡ true → n ≤ 10000
     go true e = leb-true n 10000 e
-    go false e = let z : ◌≡◌ {A = ℕ} 0 1 = cc in absurd (omega arith)
-ticks_within false first n e = let z : ◌≡◌ {A = ℕ} 0 1 = cc in absurd (omega arith)
+    go false e = cc
+ticks_within false first n e = cc

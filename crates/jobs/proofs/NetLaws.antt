@@ -43,12 +43,6 @@ unfolding nets_up_to nets_after
 up_to_all [] pulses = refl
 up_to_all (n ∷ ns) pulses = rw (up_to_all ns (drop 4 pulses))
 
-pub up_to_length : (k : ℕ) (nets pulses : List ℕ) → length (nets_up_to k nets pulses) ≡ length nets
-unfolding nets_up_to nets_after
-up_to_length zero nets pulses = refl
-up_to_length (suc k) [] pulses = refl
-up_to_length (suc k) (n ∷ ns) pulses = rw (up_to_length k ns (drop 4 pulses))
-
 -- the next channel has not been counted yet
 pub up_to_next : (k : ℕ) (nets pulses : List ℕ) → get_or (nets_up_to k nets pulses) k 0 ≡ get_or nets k 0
 unfolding nets_up_to nets_after

@@ -8,13 +8,12 @@ pub mod nets;
 pub mod reading;
 pub mod texts;
 
-// A line of a script: a command line, which stands after its first two bytes; a switch reading of a channel; a number of
-// ticks; the four-motor card, asked for by the first line alone; or anything else.
+// What a line of a script asks for: a command line, which stands after its first two bytes; a switch reading of a channel; a number
+// of ticks; or the four-motor card, asked for by the first line alone. Any other line asks for none of them.
 #[derive(Clone, Copy)]
 pub enum Job {
     Send,
     Touch(u8, u8),
     Wait(u32),
     FourMotors,
-    Unknown,
 }

@@ -17,14 +17,11 @@ fn added(net: u32, place: u32) -> u32
 }
 
 // The nets with the counts of one more tick.
-pub fn add_counts(nets: &mut [u32], pulses: &[u8])
-    requires sizes { (length nets.old ≡ 16) × (length pulses.now ≡ 64) }
-    requires nets_within { NetsWithin most_net nets.old × CountsWithin most_count pulses.now }
+pub fn add_counts(nets: &mut [u32; 16], pulses: &[u8; 64])
+    requires { NetsWithin most_net nets.old × CountsWithin most_count pulses.now }
     ensures { nets.new ≡ nets_after nets.old pulses.now }
 {
-    let mut c: usize = 0;
-    while c < 16 {
+    for c in 0..16 {
         nets[c] = added(nets[c], place_of(long_at(pulses, 4 * c)));
-        c += 1;
     }
 }

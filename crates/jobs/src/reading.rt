@@ -1,7 +1,7 @@
 // What a line of a script asks for.
 
 ghost use Rattle.std.specs.Prelude.{◌≡◌};
-ghost use Rattle.jobs.specs.Jobs.{is_contacts, is_ticks, touch_of, wait_of, card_of, lettered, job_of};
+ghost use Rattle.jobs.specs.Jobs.{is_contacts, is_ticks, touch_of, wait_of, card_of, job_of};
 
 use crate::Job;
 use line::field_reading::{hex_value, is_hex};
@@ -15,19 +15,15 @@ fn is_contacts(b: u8) -> bool
 }
 
 // S x n: what stands after `S ` is a channel, a blank and a digit.
-fn touch_of(s: &[u8]) -> Job
+#[tactic(auto, unfolding(crate::specs::Jobs::touch_of))]
+fn touch_of(s: &[u8]) -> Option<Job>
     ensures { result ≡ touch_of s.now }
 {
-    if s.len() == 3 {
-        let x = s[0];
-        let n = s[2];
-        if is_hex(x) & (s[1] == b' ') & is_contacts(n) {
-            Job::Touch(hex_value(x), digit_value(n) as u8)
-        } else {
-            Job::Unknown
+    match *s {
+        [x, b' ', n] if is_hex(x) & is_contacts(n) => {
+            Some(Job::Touch(hex_value(x), digit_value(n) as u8))
         }
-    } else {
-        Job::Unknown
+        _ => None,
     }
 }
 
@@ -40,59 +36,41 @@ fn is_ticks(first: u8, value: u64) -> bool
 
 // T n: what stands after `T ` is a number and nothing else. A number of more than five digits would be over 10000, or have
 // leading zeros.
-fn wait_of(s: &[u8]) -> Job
+#[tactic(auto, using(crate::proofs::JobLaws::wait_nothing))]
+fn wait_of(s: &[u8]) -> Option<Job>
     ensures { result ≡ wait_of s.now }
 {
-    match number_at(s, 0) {
-        Number::Read { value, count } => {
-            if (count == s.len()) & (count <= 5) & is_ticks(s[0], value) {
-                Job::Wait(value as u32)
-            } else {
-                Job::Unknown
-            }
-        }
-        Number::Nothing => Job::Unknown,
+    let Number::Read { value, count } = number_at(s, 0) else {
+        return None;
+    };
+    if (count == s.len()) & (count <= 5) & is_ticks(s[0], value) {
+        Some(Job::Wait(value as u32))
+    } else {
+        None
     }
 }
 
 // K 1: what stands after `K ` is 1 and nothing else, and no line came before.
-fn card_of(first: bool, s: &[u8]) -> Job
+#[tactic(auto, unfolding(crate::specs::Jobs::card_of))]
+fn card_of(first: bool, s: &[u8]) -> Option<Job>
     ensures { result ≡ card_of first s.now }
 {
-    if s.len() == 1 {
-        if first & (s[0] == b'1') {
-            Job::FourMotors
-        } else {
-            Job::Unknown
-        }
-    } else {
-        Job::Unknown
+    match s {
+        [b'1'] if first => Some(Job::FourMotors),
+        _ => None,
     }
 }
 
-// By the letter, with what comes after it and its blank.
-fn by_letter(first: bool, k: u8, s: &[u8]) -> Job
-    ensures { result ≡ lettered first k s.now }
-{
-    match k {
-        b'C' => Job::Send,
-        b'S' => touch_of(s),
-        b'T' => wait_of(s),
-        b'K' => card_of(first, s),
-        _ => Job::Unknown,
-    }
-}
-
-// What a line asks for, which is the first one or not.
-pub fn job_of(first: bool, line: &[u8]) -> Job
+// What a line asks for, which is the first one or not: by its letter, with what comes after it and its blank.
+#[tactic(auto, using(crate::proofs::JobLaws::job_two, crate::proofs::JobLaws::job_short), unfolding(crate::specs::Jobs::lettered))]
+pub fn job_of(first: bool, line: &[u8]) -> Option<Job>
     ensures { result ≡ job_of first line.now }
 {
-    if line.len() < 2 {
-        return Job::Unknown;
-    }
-    if line[1] == b' ' {
-        by_letter(first, line[0], &line[2..])
-    } else {
-        Job::Unknown
+    match line {
+        [b'C', b' ', ..] => Some(Job::Send),
+        [b'S', b' ', s @ ..] => touch_of(s),
+        [b'T', b' ', s @ ..] => wait_of(s),
+        [b'K', b' ', s @ ..] => card_of(first, s),
+        _ => None,
     }
 }

@@ -1,18 +1,16 @@
 -- What running a line goes by: how long a text is, and what the jobs of a line keep within. Assumes nothing.
 use Rattle.std.specs.Prelude.{Result, Ok, Err}
-use Rattle.std.specs.Prelude.{Option, Some, None}
 use Prim.Native.Char.{code}
-use Prim.Native.Nat.{ℕ, zero, suc, ◌*◌, ◌-◌, ◌/◌, ◌%◌, ◌≤◌, ◌<◌}
+use Prim.Native.Nat.{ℕ, zero, suc, ◌+◌, ◌/◌, ◌%◌, ◌≤◌}
 use mathlib.Core.Path.{◌≡◌, refl}
 use mathlib.Core.List.{List, [], ◌∷◌}
 use mathlib.Core.Bool.{Bool, true, false, ◌&&◌, cond}
+use Rattle.std.proofs.Common.{Option, Some, None}
 use native.Mathlib.Omega.{arith}
+use native.Mathlib.Numerals.{add-one}
 use lib.Dec.{eqb, leb}
 use lib.ListN.{length, take, drop, get_or, replicate, length-append, length-take}
-use Rattle.digits.specs.Bytes.{gather}
-use Rattle.digits.specs.Places.{origin}
-use Rattle.text.specs.Text.{bytes, digit_value, is_hex, hex_value, digits_at_front, value_of}
-use Rattle.text.proofs.TextLaws.{decimal_within}
+use Rattle.text.specs.Text.{bytes, digits_at_front, value_of}
 use Rattle.drive.specs.Numbers.{Verdict}
 use Rattle.drive.specs.declared.Refusal.TheVariants.{NoForm, WrongSize, NotSound}
 use Rattle.drive.specs.Numbers.{number_of}
@@ -28,13 +26,13 @@ use Rattle.obeying.specs.Taking.{CommandAfter, order_in, refused, obeyed, taken}
 use Rattle.drive.proofs.NumberLaws.{numbered}
 use Rattle.urqolina.specs.Calls.{fresh_call, command_call, reading_call}
 use Rattle.jobs.specs.declared.Job.{Job}
-use Rattle.jobs.specs.declared.Job.TheVariants.{Send, Touch, Wait, FourMotors, Unknown}
-use Rattle.jobs.specs.Jobs.{is_contacts, is_ticks, job_if, touch_of, wait_of, card_of, lettered, job_of}
+use Rattle.jobs.specs.declared.Job.TheVariants.{Send, Touch, Wait, FourMotors}
+use Rattle.jobs.specs.Jobs.{is_ticks, job_if, touch_of, wait_of, card_of, lettered, job_of}
 use Rattle.jobs.specs.Bounds.{most_ticks}
-use Rattle.jobs.specs.Texts.{plain_text, command_text, net_texts, waited_text}
+use Rattle.jobs.specs.Texts.{command_text, waited_text}
 use Rattle.running.specs.Running.{Waited, tick_of, waited, sent, touched, ticked, renewed, job_done, line_done}
 use Rattle.jobs.proofs.JobLaws.{ticks_within}
-use Rattle.jobs.proofs.OutLaws.{reply_within, net_within}
+use Rattle.jobs.proofs.OutLaws.{plain_within, reply_within, waited_within}
 
 -- No reply is longer than 17 bytes, whatever the table, the line and the buffer.
 answer_within : (t : List ℕ) (o : Order) → length (answer t o) ≤ 17
@@ -81,15 +79,6 @@ command_within t line reply = go (eqb (length t) table_size && leb 32 (length re
     go true false = omega arith
     go false sound = omega arith
 
--- The number takes ten bytes at most, and a net fourteen.
-plain_within : (n : ℕ) → length (plain_text n) ≤ 10
-plain_within n = decimal_within 1 n (omega arith)
-
-nets_within : (nets : List ℕ) (k : ℕ) → length (net_texts nets k) ≤ 14 * k
-unfolding gather
-nets_within nets zero = omega arith
-nets_within nets (suc k) = rw length-append (omega (arith, nets_within nets k, net_within k (get_or nets k origin)))
-
 command_short : (result : ℕ) (reply : List ℕ) → result / 256 ≤ 17 → length (command_text result reply) ≤ 234
 unfolding command_text
 command_short result reply h =
@@ -98,81 +87,77 @@ command_short result reply h =
 
 waited_short : (result : ℕ) (nets : List ℕ) → length (waited_text result nets) ≤ 234
 unfolding waited_text
-waited_short result nets = rw length-append (omega (arith, plain_within result, nets_within nets 16))
+waited_short result nets = omega (arith, waited_within result nets 16)
 
 -- So there is room in the buffer for the text of any job, and its line feed.
-pub job_within : (t line : List ℕ) (j : Job) → length (job_done t line j).text ≤ 234
+pub job_within : (t line : List ℕ) (j : Option Job) → length (job_done t line j).text ≤ 234
 unfolding sent touched ticked renewed bytes
-job_within t line Send = command_short _ _ (command_within t (drop 2 line) (replicate 32 0))
-job_within t line (Touch c n) = omega (arith, plain_within (reading_call t c n).result)
-job_within t line (Wait n) = waited_short _ _
-job_within t line FourMotors = omega (arith, plain_within (fresh_call t 1).result)
-job_within t line Unknown = omega arith
+job_within t line (Some Send) = command_short _ _ (command_within t (drop 2 line) (replicate 32 0))
+job_within t line (Some (Touch c n)) = omega (arith, plain_within (reading_call t c n).result)
+job_within t line (Some (Wait n)) = waited_short _ _
+job_within t line (Some FourMotors) = omega (arith, plain_within (fresh_call t 1).result)
+job_within t line None = omega arith
 
 pub line_within : (first : Bool) (t line : List ℕ) → length (line_done first t line).text ≤ 235
 unfolding line_done
 line_within first t line = rw length-append (omega (arith, job_within t line (job_of first line)))
 
 -- A line that sends a command has its letter and its blank.
-pub send_two : (first : Bool) (s : List ℕ) → job_of first s ≡ Send → 2 ≤ length s
+pub send_two : (first : Bool) (s : List ℕ) → job_of first s ≡ Some Send → 2 ≤ length s
 unfolding job_of
-send_two first [] e = let z : ◌≡◌ {A = ℕ} 0 1 = cc in absurd (omega arith)
-send_two first (k ∷ []) e = let z : ◌≡◌ {A = ℕ} 0 1 = cc in absurd (omega arith)
+send_two first [] e = cc
+send_two first (k ∷ []) e = cc
 send_two first (k ∷ b ∷ s) e = omega arith
 
--- A line that waits has 10000 ticks at most.
-touch_waits : (s : List ℕ) (n : ℕ) → touch_of s ≡ Wait n → ⊥
-unfolding touch_of
-touch_waits s n e =
-    go (eqb (length s) 3 && is_hex (get_or s 0 0) && eqb (get_or s 1 0) (code " ") && is_contacts (get_or s 2 0)) e
-  where
-    go : (t : Bool) → job_if t (Touch (hex_value (get_or s 0 0)) (digit_value (get_or s 2 0))) ≡ Wait n → ⊥
-    go true e = let z : ◌≡◌ {A = ℕ} 0 1 = cc in omega arith
-    go false e = let z : ◌≡◌ {A = ℕ} 0 1 = cc in omega arith
+-- What is asked for if a test holds: the test holds.
+asked : (t : Bool) (o : Option Job) (j : Job) → job_if t o ≡ Some j → (t ≡ true) × (o ≡ Some j)
+asked true o j e = (refl, e)
+asked false o j e = cc
 
-wait_few : (s : List ℕ) (n : ℕ) → wait_of s ≡ Wait n → n ≤ most_ticks
+-- A line that waits has 10000 ticks at most.
+touch_waits : (s : List ℕ) (n : ℕ) → touch_of s ≡ Some (Wait n) → ⊥
+unfolding touch_of
+touch_waits s n e = apart _ _ (asked _ _ _ e).1
+  where
+    apart : (x c : ℕ) → Some (Touch x c) ≡ Some (Wait n) → ⊥
+    apart x c e = cc
+
+wait_few : (s : List ℕ) (n : ℕ) → wait_of s ≡ Some (Wait n) → n ≤ most_ticks
 unfolding wait_of
 wait_few s n e =
-    go (leb 1 (length s) && leb (length s) 5 && eqb (digits_at_front s) (length s) && is_ticks (get_or s 0 0) (value_of s)) refl e
+    let t = leb 1 (length s) && leb (length s) 5 && eqb (digits_at_front s) (length s) in
+    let h = asked (t && is_ticks (get_or s 0 0) (value_of s)) (Some (Wait (value_of s))) (Wait n) e in
+    few (value_of s) h.1 (ticks_within t (get_or s 0 0) (value_of s) h.0)
   where
-    go : (t : Bool) → (leb 1 (length s) && leb (length s) 5 && eqb (digits_at_front s) (length s) && is_ticks (get_or s 0 0) (value_of s)) ≡ t
-        → job_if t (Wait (value_of s)) ≡ Wait n → n ≤ most_ticks
-    go true p e =
-        let v : n ≡ value_of s = cc in
-        omega (arith, ticks_within (leb 1 (length s) && leb (length s) 5 && eqb (digits_at_front s) (length s)) (get_or s 0 0) (value_of s) p)
-    go false p e = let z : ◌≡◌ {A = ℕ} 0 1 = cc in absurd (omega arith)
+    few : (m : ℕ) → Some (Wait m) ≡ Some (Wait n) → m ≤ most_ticks → n ≤ most_ticks
+    few m e h = let p : m ≡ n = cc in omega arith
 
-card_waits : (first : Bool) (s : List ℕ) (n : ℕ) → card_of first s ≡ Wait n → ⊥
+card_waits : (first : Bool) (s : List ℕ) (n : ℕ) → card_of first s ≡ Some (Wait n) → ⊥
 unfolding card_of
-card_waits first s n e = go (eqb (length s) 1 && first && eqb (get_or s 0 0) (code "1")) e
+card_waits first s n e = apart (asked _ _ _ e).1
   where
-    go : (t : Bool) → job_if t FourMotors ≡ Wait n → ⊥
-    go true e = let z : ◌≡◌ {A = ℕ} 0 1 = cc in omega arith
-    go false e = let z : ◌≡◌ {A = ℕ} 0 1 = cc in omega arith
+    apart : Some FourMotors ≡ Some (Wait n) → ⊥
+    apart e = cc
 
-lettered_few : (first : Bool) (k : ℕ) (s : List ℕ) (n : ℕ) → lettered first k s ≡ Wait n → n ≤ most_ticks
+lettered_few : (first : Bool) (k : ℕ) (s : List ℕ) (n : ℕ) → lettered first k s ≡ Some (Wait n) → n ≤ most_ticks
 unfolding lettered
 lettered_few first k s n e = go (eqb k (code "C")) (eqb k (code "S")) (eqb k (code "T")) (eqb k (code "K")) e
   where
-    go : (a b c d : Bool) → cond a Send (cond b (touch_of s) (cond c (wait_of s) (cond d (card_of first s) Unknown))) ≡ Wait n → n ≤ most_ticks
-    go true b c d e = let z : ◌≡◌ {A = ℕ} 0 1 = cc in absurd (omega arith)
+    go : (a b c d : Bool) → cond a (Some Send) (cond b (touch_of s) (cond c (wait_of s) (cond d (card_of first s) None))) ≡ Some (Wait n) → n ≤ most_ticks
+    go true b c d e = cc
     go false true c d e = absurd (touch_waits s n e)
     go false false true d e = wait_few s n e
     go false false false true e = absurd (card_waits first s n e)
-    go false false false false e = let z : ◌≡◌ {A = ℕ} 0 1 = cc in absurd (omega arith)
+    go false false false false e = cc
 
-pub waits_few : (first : Bool) (s : List ℕ) (n : ℕ) → job_of first s ≡ Wait n → n ≤ most_ticks
+pub waits_few : (first : Bool) (s : List ℕ) (n : ℕ) → job_of first s ≡ Some (Wait n) → n ≤ most_ticks
 unfolding job_of
-waits_few first [] n e = let z : ◌≡◌ {A = ℕ} 0 1 = cc in absurd (omega arith)
-waits_few first (k ∷ []) n e = let z : ◌≡◌ {A = ℕ} 0 1 = cc in absurd (omega arith)
-waits_few first (k ∷ b ∷ s) n e = go (eqb b (code " ")) e
-  where
-    go : (t : Bool) → job_if t (lettered first k s) ≡ Wait n → n ≤ most_ticks
-    go true e = lettered_few first k s n e
-    go false e = let z : ◌≡◌ {A = ℕ} 0 1 = cc in absurd (omega arith)
+waits_few first [] n e = cc
+waits_few first (k ∷ []) n e = cc
+waits_few first (k ∷ b ∷ s) n e = lettered_few first k s n (asked _ _ _ e).1
 
--- one of the ticks that are left
-pub waited_more : (n : ℕ) (w : Waited) → 0 < n → waited n w ≡ waited (n - 1) (tick_of w)
+-- one tick more
+pub waited_more : (n : ℕ) (w : Waited) → waited (n + 1) w ≡ tick_of (waited n w)
 unfolding waited
-waited_more zero w h = absurd (omega arith)
-waited_more (suc n) w h = let e : suc n - 1 ≡ n = omega arith in rw e
+waited_more zero w = refl
+waited_more (suc n) w = rw add-one (rw add-one at (waited_more n (tick_of w)))

@@ -1,12 +1,12 @@
 -- Document 01, "Bench cases": what a line of a script does and prints. "It prints, per line, the number, then for C a space and
 -- the reply or `-`; for T, per channel with a nonzero net, a space, x, colon, signed net. Any other line prints `?`."
 use Prim.Native.Char.{code}
-use Rattle.std.specs.Prelude.{ℕ, zero, suc, ◌≡◌, List, [], ◌∷◌, ◌++◌, Bool, drop, replicate}
+use Rattle.std.specs.Prelude.{ℕ, zero, suc, ◌≡◌, List, [], ◌∷◌, ◌++◌, Bool, Option, Some, None, drop, replicate}
 use Rattle.digits.specs.Places.{origin}
 use Rattle.text.specs.Text.{Wrote, bytes}
 use Rattle.urqolina.specs.Calls.{fresh_call, command_call, reading_call, tick_call}
 use Rattle.jobs.specs.declared.Job.{Job}
-use Rattle.jobs.specs.declared.Job.TheVariants.{Send, Touch, Wait, FourMotors, Unknown}
+use Rattle.jobs.specs.declared.Job.TheVariants.{Send, Touch, Wait, FourMotors}
 use Rattle.jobs.specs.Jobs.{job_of}
 use Rattle.jobs.specs.Texts.{plain_text, command_text, nets_after, waited_text}
 
@@ -63,12 +63,12 @@ renewed t =
     record { table = r.table; text = plain_text r.result }
 
 -- by what the line asks for; "Any other line prints `?`"
-abbrev pub job_done : List ℕ → List ℕ → Job → Printed
-job_done t line Send = sent t (drop 2 line)
-job_done t line (Touch c n) = touched t c n
-job_done t line (Wait n) = ticked t n
-job_done t line FourMotors = renewed t
-job_done t line Unknown = record { table = t; text = bytes "?" }
+abbrev pub job_done : List ℕ → List ℕ → Option Job → Printed
+job_done t line (Some Send) = sent t (drop 2 line)
+job_done t line (Some (Touch c n)) = touched t c n
+job_done t line (Some (Wait n)) = ticked t n
+job_done t line (Some FourMotors) = renewed t
+job_done t line None = record { table = t; text = bytes "?" }
 
 -- a line by itself, which is the first one or not: its table, and its text with the line feed
 unfoldable pub line_done : Bool → List ℕ → List ℕ → Printed

@@ -5,6 +5,7 @@ use mathlib.Core.Path.{◌≡◌, refl, sym}
 use mathlib.Core.List.{List, [], ◌∷◌, ◌++◌, append_assoc, append-nil}
 use mathlib.Core.Bool.{Bool, true, false, cond}
 use native.Mathlib.Omega.{arith}
+use Rattle.std.proofs.Common.{Option, Some, None}
 use lib.Dec.{eqb, leb, ltb}
 use lib.ListN.{length, take, drop, replicate, length-drop, length-append}
 use lib.Seq.{take_all, take-append-le, length-take-le}
@@ -13,7 +14,7 @@ use Rattle.line.proofs.Laws.{too_long}
 use Rattle.table.specs.Layout.{table_size}
 use Rattle.urqolina.specs.Calls.{command_call, fresh_call}
 use Rattle.jobs.specs.declared.Job.{Job}
-use Rattle.jobs.specs.declared.Job.TheVariants.{Send, Touch, Wait, FourMotors, Unknown}
+use Rattle.jobs.specs.declared.Job.TheVariants.{Send, Touch, Wait, FourMotors}
 use Rattle.jobs.specs.Jobs.{job_if, joined, lines_of, touch_of, wait_of, card_of, lettered, job_of}
 use Rattle.jobs.specs.Holding.{held_of, kept}
 use Rattle.running.specs.Running.{sent, job_done, line_done}
@@ -30,15 +31,15 @@ unfolding sent
 long_sent t a b h l = rw (long_command t a b (replicate 32 0) h l)
 
 -- A long line is none of `S x n`, `T n` and `K 1`.
-long_touch : (s : List ℕ) → 80 < length s → touch_of s ≡ Unknown
+long_touch : (s : List ℕ) → 80 < length s → touch_of s ≡ None
 unfolding touch_of
 long_touch s h = rw (ne_eqb (length s) 3 (λ e. omega arith))
 
-long_wait : (s : List ℕ) → 80 < length s → wait_of s ≡ Unknown
+long_wait : (s : List ℕ) → 80 < length s → wait_of s ≡ None
 unfolding wait_of
 long_wait s h = rw (le-leb 1 (length s) (omega arith), lt-leb (length s) 5 (omega arith))
 
-long_card : (first : Bool) (s : List ℕ) → 80 < length s → card_of first s ≡ Unknown
+long_card : (first : Bool) (s : List ℕ) → 80 < length s → card_of first s ≡ None
 unfolding card_of
 long_card first s h = rw (ne_eqb (length s) 1 (λ e. omega arith))
 
@@ -61,8 +62,8 @@ held_job first (k ∷ b ∷ s) = go (leb (length s) 94) refl
         let l : length (take 94 s) ≡ 94 = length-take-le 94 s (omega (arith, leb-false (length s) 94 e)) in
         rw (long_letter first k (take 94 s) s (omega arith) (omega (arith, leb-false (length s) 94 e)))
 
-same_done : (t s : List ℕ) (j : Job) → job_done t (held_of s) j ≡ job_done t s j
-same_done t s Send = go (leb (length s) 96) refl
+same_done : (t s : List ℕ) (j : Option Job) → job_done t (held_of s) j ≡ job_done t s j
+same_done t s (Some Send) = go (leb (length s) 96) refl
   where
     go : (u : Bool) → leb (length s) 96 ≡ u → sent t (drop 2 (take 96 s)) ≡ sent t (drop 2 s)
     go true e = rw (take_all 96 s (leb-true (length s) 96 e))
@@ -71,10 +72,10 @@ same_done t s Send = go (leb (length s) 96) refl
         long_sent t (drop 2 (take 96 s)) (drop 2 s)
         (rw length-drop (omega arith))
         (rw length-drop (omega (arith, leb-false (length s) 96 e)))
-same_done t s (Touch c n) = refl
-same_done t s (Wait n) = refl
-same_done t s FourMotors = refl
-same_done t s Unknown = refl
+same_done t s (Some (Touch c n)) = refl
+same_done t s (Some (Wait n)) = refl
+same_done t s (Some FourMotors) = refl
+same_done t s None = refl
 
 -- and what is held of it is answered as the line is.
 pub held_done : (first : Bool) (t s : List ℕ) → job_done t (held_of s) (job_of first (held_of s)) ≡ job_done t s (job_of first s)

@@ -1,109 +1,92 @@
 // bench as it reads: a byte of the input at a time, and the end.
 
-ghost use Rattle.std.specs.Prelude.{◌≡◌, ◌<◌, ◌≤◌, length, take, drop};
+ghost use Rattle.std.specs.Prelude.{◌≡◌, ◌<◌, ◌≤◌, [], true, length, take, drop, MatchOption};
 ghost use Rattle.text.specs.Text.{Wrote};
 ghost use Rattle.jobs.specs.Bounds.{out_size};
-ghost use Rattle.jobs.specs.Holding.{held_size};
 ghost use Rattle.script.specs.Stream.{Takes, Prints, byte_read, end_read};
 
-use jobs::holding::keep;
+use jobs::holding::Line;
+use jobs::texts::ROOM;
 use running::run_line;
 
-// What a byte leaves: whether the line is the first one, how many bytes of it are held, and how many are written.
-#[derive(Clone, Copy)]
-pub struct Taken {
+// How far a script is read: whether the line in hand is the first one, and what is held of it.
+#[derive(Drop)]
+pub struct Reading {
     pub first: bool,
-    pub held: usize,
-    pub count: usize,
+    pub line: Line,
 }
 
-// One byte of the input.
-pub fn take_byte(
-    table: &mut [u8],
-    line: &mut [u8],
-    first: bool,
-    held: usize,
-    b: u8,
-    out: &mut [u8],
-) -> Taken
-    requires { (length line.old ≡ held_size) × (held ≤ held_size) × (length out.old ≡ out_size) }
-    ensures { Takes (byte_read first table.old (take held line.old) b) result.first table.new (take result.held line.new) out.old out.new result.count × (result.held ≤ held_size) }
-{
-    if b == b'\n' {
-        let count = run_line(first, table, &line[..held], out);
-        Taken {
-            first: false,
-            held: 0,
-            count: count,
-        }
-    } else {
-        Taken {
-            first: first,
-            held: keep(line, held, b),
-            count: 0,
-        }
-    }
-}
-
-// How far a run of bytes got: whether the line is the first one, how many bytes of it are held, how many of the run are read, and how many
-// are written.
+// How far a run of bytes got: how many of it are read, and how many are written.
 #[derive(Clone, Copy)]
 pub struct Run {
-    pub first: bool,
-    pub held: usize,
     pub read: usize,
     pub count: usize,
 }
 
-// How many bytes a byte's text may take.
-const ROOM: usize = 256;
+impl Reading {
+    // Nothing is read yet.
+    pub fn new() -> Self
+        ensures { result ≡ record { first = true; line = [] } }
+    {
+        Reading {
+            first: true,
+            line: Line::new(),
+        }
+    }
 
-// A run of bytes, as far as there is room for the text of one more.
-pub fn take_run(
-    table: &mut [u8],
-    line: &mut [u8],
-    first: bool,
-    held: usize,
-    bytes: &[u8],
-    out: &mut [u8],
-) -> Run
-    requires { (length line.old ≡ held_size) × (held ≤ held_size) × (out_size ≤ length out.old) }
-    ensures prints { Prints first table.old (take held line.old) bytes.now (take result.count out.new) result.first table.new (take result.held line.new) (drop result.read bytes.now) }
-    ensures bounds { (result.held ≤ held_size) × (result.count ≤ length out.old) × (result.read ≤ length bytes.now) × (0 < length bytes.now → 0 < result.read) }
-{
-    let mut opening = first;
-    let mut kept = held;
-    let mut read: usize = 0;
-    let mut count: usize = 0;
-    while read < bytes.len() && count <= out.len() - ROOM {
-        let t = take_byte(
-            table,
-            line,
-            opening,
-            kept,
-            bytes[read],
-            &mut out[count..count + ROOM],
-        );
-        opening = t.first;
-        kept = t.held;
-        count += t.count;
-        read += 1;
+    // One byte of the input: how many are written.
+    #[tactic(auto, using(jobs::proofs::OutLaws::wrote_none), unfolding(crate::specs::Stream::byte_read))]
+    pub fn take_byte(&mut self, table: &mut [u8], b: u8, out: &mut [u8; ROOM]) -> usize
+        ensures { Takes (byte_read self.old.first table.old self.old.line b) self.new.first table.new self.new.line out.old out.new result }
+    {
+        if b == b'\n' {
+            let count = run_line(self.first, table, self.line.held(), out);
+            self.first = false;
+            self.line.clear();
+            count
+        } else {
+            self.line.keep(b);
+            0
+        }
     }
-    Run {
-        first: opening,
-        held: kept,
-        read: read,
-        count: count,
-    }
-}
 
-// The end of the input.
-pub fn take_end(table: &mut [u8], line: &[u8], first: bool, held: usize, out: &mut [u8]) -> usize
-    requires { (length line.now ≡ held_size) × (held ≤ held_size) × (length out.old ≡ out_size) }
-    ensures { Wrote out.old out.new (end_read first table.old (take held line.now)) result × (result ≤ out_size) }
-{
-    if held == 0 {
-        return 0;
+    // One byte of a run, where there is room for its text.
+    fn take_next(&mut self, table: &mut [u8], b: u8, out: &mut [u8]) -> Option<usize>
+        ensures taken { MatchOption result (length out.old < out_size) (λ n. Takes (byte_read self.old.first table.old self.old.line b) self.new.first table.new self.new.line out.old out.new n) }
+        ensures kept { MatchOption result ((self.new ≡ self.old) × (table.new ≡ table.old) × (out.new ≡ out.old)) (λ n. n ≤ length out.old) }
+    {
+        let room = out.first_chunk_mut()?;
+        Some(self.take_byte(table, b, room))
     }
-    run_line(first, table, &line[..held], out)
+
+    // A run of bytes, as far as there is room for the text of one more.
+    pub fn take_run(&mut self, table: &mut [u8], bytes: &[u8], out: &mut [u8]) -> Run
+        requires { out_size ≤ length out.old }
+        ensures prints { Prints self.old.first table.old self.old.line bytes.now (take result.count out.new) self.new.first table.new self.new.line (drop result.read bytes.now) }
+        ensures bounds { (result.count ≤ length out.old) × (result.read ≤ length bytes.now) × (0 < length bytes.now → 0 < result.read) }
+    {
+        let mut count = 0;
+        for (read, b) in bytes.iter().enumerate() {
+            let Some(n) = self.take_next(table, *b, &mut out[count..]) else {
+                return Run { read, count };
+            };
+            count += n;
+        }
+        Run {
+            read: bytes.len(),
+            count,
+        }
+    }
+
+    // The end of the input: how many bytes are written.
+    #[tactic(auto, using(crate::proofs::FeedLaws::end_none, crate::proofs::FeedLaws::end_some, running::proofs::RunLaws::line_within, jobs::proofs::OutLaws::wrote_none))]
+    pub fn take_end(&self, table: &mut [u8], out: &mut [u8; ROOM]) -> usize
+        ensures { Wrote out.old out.new (end_read self.now.first table.old self.now.line) result × (result ≤ out_size) }
+    {
+        let line = self.line.held();
+        if line.is_empty() {
+            return 0;
+        }
+        run_line(self.first, table, line, out)
+    }
 }

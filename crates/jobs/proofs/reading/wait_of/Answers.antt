@@ -6,7 +6,7 @@ use native.Mathlib.Omega.{arith}
 use lib.Dec.{eqb, leb}
 use lib.ListN.{length, get_or}
 use Rattle.text.proofs.TextLaws.{digits_within}
-use Rattle.jobs.proofs.JobLaws.{read_parts, wait_read, wait_nothing, ticks_within}
+use Rattle.jobs.proofs.JobLaws.{read_parts, wait_read, ticks_within}
 use Rattle.jobs.proofs.reading.wait_of.Goals as goal
 
 pub bounds-s-0 : goal.bounds-s-0
@@ -28,7 +28,3 @@ returns-then-count-s c =
 pub returns-else-count-s : goal.returns-else-count-s
 returns-else-count-s c =
     rw (wait_read c.args.s.now c.in-Read.value c.in-Read.count (sym c.number_at.ensures ∙ c.in-Read.is), ← c.is_ticks.ensures, c.if-count-s.false)
-
-pub returns-in-Nothing : goal.returns-in-Nothing
-returns-in-Nothing c =
-    rw (wait_nothing c.args.s.now (sym c.number_at.ensures ∙ c.in-Nothing.is))

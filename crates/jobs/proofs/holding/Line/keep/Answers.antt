@@ -1,0 +1,14 @@
+-- `jobs::holding::Line::keep` meets its contract. Assumes nothing.
+use Rattle.jobs.proofs.HoldLaws.{kept_stored, kept_left, wrote_take}
+use Rattle.std.proofs.Common.{arith}
+use Rattle.jobs.proofs.holding.Line.keep.Goals as goal
+
+pub returns-then-self-lt-HELD : goal.returns-then-self-lt-HELD
+returns-then-self-lt-HELD c =
+    let l = c.self.inside in
+    rw (← c.self.view_is) (wrote_take _ _ _ _ (kept_stored l.bytes l.held c.args.b (omega arith) c.if-self-lt-HELD.true))
+
+pub returns-else-self-lt-HELD : goal.returns-else-self-lt-HELD
+returns-else-self-lt-HELD c =
+    let l = c.self.inside in
+    rw (← c.self.view_is) (wrote_take _ _ _ _ (kept_left l.bytes l.held c.args.b (omega arith) c.self.invariant c.if-self-lt-HELD.false))
