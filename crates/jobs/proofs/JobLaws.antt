@@ -11,23 +11,23 @@ use lib.ListN.{length, take, drop, get_or}
 use lib.Seq.{take-length}
 use borrow.Author.Tests.{eqb-true, leb-true, le-leb, eq-eqb}
 use Rattle.text.specs.Text.{digits_at_front, value_of, number_at_front}
-use Rattle.text.specs.declared.decimal.Number.TheVariants.{Nothing, Read}
+use Rattle.text.specs.declared.decimal.Digits.{Digits}
 use Rattle.text.proofs.TextLaws.{between}
 use Rattle.jobs.specs.declared.Job.TheVariants.{Wait}
 use Rattle.std.proofs.lemmas.List.{take_rest}
 use Rattle.jobs.specs.Jobs.{is_ticks, job_if, wait_of, lettered, job_of}
 
 -- A number that is read is all the digits at the front, of which there is one at least.
-pub read_parts : (s : List ℕ) (v n : ℕ) → number_at_front s ≡ Read v n → (v ≡ value_of (take n s)) × (n ≡ digits_at_front s) × (1 ≤ n)
+pub read_parts : (s : List ℕ) (d : Digits) → number_at_front s ≡ Some d → (d.value ≡ value_of (take d.count s)) × (d.count ≡ digits_at_front s) × (1 ≤ d.count)
 unfolding number_at_front
-read_parts s v n e = go (leb 1 (digits_at_front s) && leb (digits_at_front s) 10) refl e
+read_parts s d e = go (leb 1 (digits_at_front s) && leb (digits_at_front s) 10) refl e
   where
     go : (t : Bool) → (leb 1 (digits_at_front s) && leb (digits_at_front s) 10) ≡ t
-        → cond t (Read (value_of (take (digits_at_front s) s)) (digits_at_front s)) Nothing ≡ Read v n
-        → (v ≡ value_of (take n s)) × (n ≡ digits_at_front s) × (1 ≤ n)
+        → cond t (Some (record { value = value_of (take (digits_at_front s) s); count = digits_at_front s })) None ≡ Some d
+        → (d.value ≡ value_of (take d.count s)) × (d.count ≡ digits_at_front s) × (1 ≤ d.count)
     go true p e =
-        let c : n ≡ digits_at_front s = cc in
-        let w : v ≡ value_of (take (digits_at_front s) s) = cc in
+        let c : d.count ≡ digits_at_front s = cc in
+        let w : d.value ≡ value_of (take (digits_at_front s) s) = cc in
         (rw (c, w), c, omega (arith, (between 1 10 (digits_at_front s) p).0))
     go false p e = cc
 
@@ -56,13 +56,19 @@ no_more true b = refl
 no_more false b = refl
 
 -- T n, where a number stands there
-pub wait_read : (s : List ℕ) (v n : ℕ) → number_at_front s ≡ Read v n
-    → wait_of s ≡ job_if (eqb n (length s) && leb n 5 && is_ticks (get_or s 0 0) v) (Some (Wait v))
+pub wait_read : (s : List ℕ) (d : Digits) → number_at_front s ≡ Some d
+    → wait_of s ≡ job_if (eqb d.count (length s) && leb d.count 5 && is_ticks (get_or s 0 0) d.value) (Some (Wait d.value))
 unfolding wait_of
-wait_read s v n e = go (eqb n (length s)) refl
+wait_read s d e = go (eqb n (length s)) refl
   where
+    v : ℕ
+    v = d.value
+
+    n : ℕ
+    n = d.count
+
     p : (v ≡ value_of (take n s)) × (n ≡ digits_at_front s) × (1 ≤ n)
-    p = read_parts s v n e
+    p = read_parts s d e
 
     go : (t : Bool) → eqb n (length s) ≡ t
         → job_if (leb 1 (length s) && leb (length s) 5 && eqb (digits_at_front s) (length s) && is_ticks (get_or s 0 0) (value_of s)) (Some (Wait (value_of s)))
@@ -75,12 +81,12 @@ wait_read s v n e = go (eqb n (length s)) refl
 
 -- a number of few digits is read
 few_read : (s : List ℕ) → 1 ≤ digits_at_front s → digits_at_front s ≤ 10
-    → number_at_front s ≡ Read (value_of (take (digits_at_front s) s)) (digits_at_front s)
+    → number_at_front s ≡ Some (record { value = value_of (take (digits_at_front s) s); count = digits_at_front s })
 unfolding number_at_front
 few_read s h l = rw (le-leb 1 (digits_at_front s) h, le-leb (digits_at_front s) 10 l)
 
 -- T n, where none does
-pub wait_nothing : (s : List ℕ) → number_at_front s ≡ Nothing → wait_of s ≡ None
+pub wait_nothing : (s : List ℕ) → number_at_front s ≡ None → wait_of s ≡ None
 unfolding wait_of
 wait_nothing s e = go (leb 1 (length s) && leb (length s) 5) (eqb (digits_at_front s) (length s)) refl refl
   where

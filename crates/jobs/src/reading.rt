@@ -5,7 +5,7 @@ ghost use Rattle.jobs.specs.Jobs.{is_contacts, is_ticks, touch_of, wait_of, card
 
 use crate::Job;
 use line::field_reading::{hex_value, is_hex};
-use text::decimal::{Number, digit_value, is_digit, number_at};
+use text::decimal::{Digits, digit_value, is_digit, number_at};
 
 // Whether a byte is the digit of contacts.
 fn is_contacts(b: u8) -> bool
@@ -40,9 +40,7 @@ fn is_ticks(first: u8, value: u64) -> bool
 fn wait_of(s: &[u8]) -> Option<Job>
     ensures { result ≡ wait_of s.now }
 {
-    let Number::Read { value, count } = number_at(s, 0) else {
-        return None;
-    };
+    let Digits { value, count } = number_at(s, 0)?;
     if (count == s.len()) & (count <= 5) & is_ticks(s[0], value) {
         Some(Job::Wait(value as u32))
     } else {
