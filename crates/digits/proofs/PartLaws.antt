@@ -73,8 +73,7 @@ append_bytes (x ∷ a) b f g zero = f zero
 append_bytes (x ∷ a) b f g (suc k) = append_bytes a b (λ j. f (suc j)) g k
 
 pub cons_bytes : (x : ℕ) (s : List ℕ) → x < 256 → AllBytes s → AllBytes (x ∷ s)
-cons_bytes x s h f zero = h
-cons_bytes x s h f (suc k) = f k
+cons_bytes x s h f k = grind arith
 
 pub none_bytes : AllBytes []
 none_bytes k = omega arith

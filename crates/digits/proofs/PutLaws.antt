@@ -1,6 +1,6 @@
 -- What is written byte by byte, or into a part that was lent, as one `put` into the whole buffer.
 -- Assumes nothing.
-use Rattle.std.proofs.Common.{◌≡◌, ℕ, suc, ◌+◌, ◌-◌, ◌<◌, ◌≤◌, List, [], ◌∷◌, ◌++◌, length, get_or, take, drop, set, sym, ◌∙◌, append_assoc, append-nil, add-zero, add_assoc, add-suc, suc-add, zero-add, add-one, one-add, arith, length-append, length-drop, take-append-drop, length-take, take-suc, take-take, drop-drop, take_at, take-add, drop_at}
+use Rattle.std.proofs.Common.{◌≡◌, ℕ, suc, ◌+◌, ◌-◌, ◌<◌, ◌≤◌, List, [], ◌∷◌, ◌++◌, length, get_or, take, drop, set, sym, ◌∙◌, append_assoc, append-nil, add-zero, add_assoc, add-suc, suc-add, zero-add, add-one, arith, length-append, length-drop, take-append-drop, length-take, take-suc, take-take, drop-drop, take_at, take-add, drop_at}
 use lib.Seq.{drop-length, sets, sets-eq, set_at, take-append-le, drop-append-le}
 use Rattle.digits.specs.Bytes.{put, joined}
 
@@ -19,8 +19,7 @@ put_more t b i v h =
 -- a byte written at the front, and the rest put after it
 pub put_front : (t b : List ℕ) (v : ℕ) → 0 < length t → put (set t 0 v) 1 b ≡ put t 0 (v ∷ b)
 unfolding put
-put_front [] b v h = absurd (omega arith)
-put_front (x ∷ t) b v h = rw (one-add, zero-add)
+put_front t b v h = grind arith
 
 -- a text put right after another
 pub put_after : (t x y : List ℕ) (a : ℕ) → a + length x ≤ length t → put (put t a x) (a + length x) y ≡ put t a (x ++ y)

@@ -61,8 +61,7 @@ bits_same f g k same = bits_unique f k (bits_of g k) (bits_below g k) (λ c h. b
 
 -- Another bit at one place: with both bits added it is an equation.
 twice : (b : Bool) (c : ℕ) → worth b (suc c) ≡ 2 * worth b c
-twice true c = rw (pow-suc) (omega arith)
-twice false c = refl
+twice b c = grind arith
 
 one_bit : (f g : ℕ → Bool) (k c : ℕ) → c < k → ((d : ℕ) → d < k → (d ≡ c → ⊥) → g d ≡ f d)
     → bits_of g k + worth (f c) c ≡ bits_of f k + worth (g c) c

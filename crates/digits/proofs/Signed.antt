@@ -1,7 +1,7 @@
 -- A place is the language's own signed reading of a word, plus the shift; a count in the pulse buffer is the signed number
 -- of pulses. So a reader need not trust the shift: `to_z w32` is what the language itself takes the four bytes of an i32 for.
 -- Assumes nothing.
-use Rattle.std.proofs.Common.{◌≡◌, ℕ, zero, suc, ◌+◌, ◌-◌, ◌%◌, ◌<◌, ◌≤◌, Bool, true, false, cond, eqb, ltb, [], ◌∷◌, pos, negsuc, ◌+ℤ◌, neg_ℤ, refl, ap, mod-eq_of_lt, arith, w32, to_z, ltb-false, ltb-true, le-ltb, lt-ltb}
+use Rattle.std.proofs.Common.{◌≡◌, ℕ, zero, suc, ◌+◌, ◌-◌, ◌<◌, ◌≤◌, Bool, true, false, ltb, [], ◌∷◌, pos, negsuc, ◌+ℤ◌, neg_ℤ, refl, ap, mod-eq_of_lt, arith, w32, to_z, ltb-false, ltb-true, le-ltb, lt-ltb}
 use Rattle.digits.specs.Words.{word, word_bytes}
 use Rattle.digits.specs.Places.{origin, place_of, word_of, count_of, cw, ccw}
 use Rattle.digits.proofs.WordLaws.{word_bytes_law}
@@ -61,11 +61,7 @@ count_ccw (suc n) h =
 -- The same of the four bytes that stand in the pulse buffer.
 count_fits : (going n : ℕ) → n < 2147483648 → count_of going n < 4294967296
 unfolding count_of
-count_fits going n h = go (eqb going cw)
-  where
-    go : (t : Bool) → cond t n ((4294967296 - n) % 4294967296) < 4294967296
-    go true = omega arith
-    go false = omega arith
+count_fits going n h = grind arith
 
 pub pulses_signed_cw : (n : ℕ) → n < 2147483648 → to_z w32 (word (word_bytes 4 (count_of cw n))) ≡ pos n
 pulses_signed_cw n h = rw (word_bytes_law 4 (count_of cw n) (count_fits cw n h)) (count_cw n h)

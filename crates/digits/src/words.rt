@@ -39,6 +39,7 @@ impl Word for u8 {
     }
 }
 
+// The wider ones differ in the array alone, whose length is no const parameter here: `to_le_bytes` is of each type by itself.
 impl Word for u16 {
     ghost size = { 2 };
 

@@ -1,5 +1,5 @@
 -- The bits of bytes 24 to 31 that no sound record has set, and the fields that they tell of. Assumes nothing.
-use Rattle.std.proofs.Common.{◌≡◌, ℕ, ◌+◌, ◌*◌, ◌/◌, ◌%◌, ◌^◌, ◌<◌, ◌≤◌, Bool, true, false, not, ◌&&◌, eqb, leb, List, length, refl, mod-eq_of_lt, arith, eq-eqb, ne_eqb, eqb-true, leb-false, leb-true}
+use Rattle.std.proofs.Common.{◌≡◌, ℕ, ◌+◌, ◌*◌, ◌/◌, ◌%◌, ◌^◌, ◌<◌, ◌≤◌, Bool, true, false, not, ◌&&◌, eqb, leb, List, length, refl, mod-eq_of_lt, arith, eq-eqb, ne_eqb, eqb-true}
 use lib.Bits.{bit_and, and_block, and_high, and_mask}
 use borrow.Author.Tests.{eqb-false}
 use Rattle.digits.specs.Bytes.{AllBytes, part}
@@ -9,13 +9,7 @@ use Rattle.digits.proofs.WordLaws.{word_part, word_below}
 
 -- A sum of a number and 256 times another is 0 where both are.
 sum_zero : (a b : ℕ) → eqb (a * 256 + b) 0 ≡ (eqb b 0 && eqb a 0)
-sum_zero a b = go (eqb b 0) refl (eqb a 0) refl
-  where
-    go : (t : Bool) → eqb b 0 ≡ t → (u : Bool) → eqb a 0 ≡ u → eqb (a * 256 + b) 0 ≡ (t && u)
-    go true e true f = let p : b ≡ 0 = eqb-true b 0 e in let q : a ≡ 0 = eqb-true a 0 f in eq-eqb (a * 256 + b) 0 (omega arith)
-    go true e false f = let q : a ≡ 0 → ⊥ = eqb-false a 0 f in ne_eqb (a * 256 + b) 0 (λ z. q (omega arith))
-    go false e true f = let q : b ≡ 0 → ⊥ = eqb-false b 0 e in ne_eqb (a * 256 + b) 0 (λ z. q (omega arith))
-    go false e false f = let q : b ≡ 0 → ⊥ = eqb-false b 0 e in ne_eqb (a * 256 + b) 0 (λ z. q (omega arith))
+sum_zero a b = grind arith
 
 -- Bits are clear where those of the lowest byte and those of the others are.
 masked : (x m s r : ℕ) → x < 256 → m < 256 → eqb (bit_and (x + 256 * s) (m + 256 * r)) 0 ≡ (eqb (bit_and x m) 0 && eqb (bit_and s r) 0)
@@ -35,11 +29,7 @@ peel b bytes at n m r h hm =
 
 -- A number is 0 just where another is k at most.
 same_test : (n x k : ℕ) → (x ≤ k → n ≡ 0) → (k < x → n ≡ 0 → ⊥) → eqb n 0 ≡ leb x k
-same_test n x k f g = go (leb x k) refl
-  where
-    go : (t : Bool) → leb x k ≡ t → eqb n 0 ≡ t
-    go true e = eq-eqb n 0 (f (leb-true x k e))
-    go false e = ne_eqb n 0 (g (leb-false x k e))
+same_test n x k f g = grind arith
 
 -- What the bits of one byte tell.
 pub three_at_most : (x : ℕ) → x < 256 → eqb (bit_and x 252) 0 ≡ leb x 3

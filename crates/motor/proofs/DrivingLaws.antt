@@ -1,6 +1,5 @@
 -- What is judged of a record with a drive, and soundness. Assumes nothing.
-use Rattle.std.proofs.Common.{◌≡◌, ℕ, ◌<◌, ◌≤◌, Bool, true, false, cond, not, ◌&&◌, ◌||◌, eqb, leb, List, length, sym, refl, ◌∙◌, arith, eq-eqb, ne_eqb, eqb-true, le-leb, leb-false, leb-true}
-use mathlib.Core.Bool.{false≢true}
+use Rattle.std.proofs.Common.{◌≡◌, ℕ, ◌≤◌, Bool, true, cond, not, ◌&&◌, ◌||◌, eqb, leb, List, length, sym, refl, ◌∙◌, arith, eq-eqb, eqb-true, le-leb, leb-true}
 use borrow.Author.Tests.{eqb-false, not-true}
 use Rattle.digits.specs.Bytes.{part, all_zero}
 use Rattle.digits.specs.Words.{word}
@@ -12,7 +11,7 @@ use Rattle.record.specs.Record.{byte_at, long_at, going_of, held_of, motor_of}
 use Rattle.motor.specs.Switches.{blocked, edge, room}
 use Rattle.motor.specs.Sound.{is_speed, limits_in_range, speeds_in_range, wiring_in_range, setup_in_range, contacts_right, end_flags_in_range, aim_right, busy, sound_motor, held_right}
 use Rattle.motor.specs.Judged.{aimed, free, way_allowed, driving_judged}
-use Rattle.motor.proofs.SoundLaws.{and_l, and_r, or_true, or_false, InRange, UnderWay, bounds_drive, speed_bounds, range_bounds, sound_parts, sound_busy, busy_sound, target_position}
+use Rattle.motor.proofs.SoundLaws.{and_l, and_r, InRange, UnderWay, bounds_drive, speed_bounds, range_bounds, sound_parts, sound_busy, busy_sound, target_position}
 use Rattle.motor.proofs.StandingLaws.{word_44, first_byte}
 
 -- A direction is CW or it is not: what is judged in it is the same for all that are not.
@@ -22,60 +21,19 @@ way_same g h m e = rw e
 
 -- Byte 32 is allowed just where it tells a direction, and one that is held under pause alone.
 allowed_way : (paused : Bool) (n : ℕ) → way_allowed paused n ≡ true → (going_of n ≤ 2) × ((paused || not (held_of n)) ≡ true)
-allowed_way paused n e = go (leb n 2) refl paused (and_r (leb 1 n) _ e)
-  where
-    held : 2 < n → leb n 4 ≡ true → going_of n ≤ 2
-    held l h = three (eqb n 3) refl
-      where
-        three : (a : Bool) → eqb n 3 ≡ a → going_of n ≤ 2
-        three true a = rw (a) (omega arith)
-        three false a = let four : n ≡ 4 = omega (arith, leb-true n 4 h, eqb-false n 3 a) in rw (four) (omega arith)
-
-    go : (t : Bool) → leb n 2 ≡ t → (p : Bool) → (t || (p && leb n 4)) ≡ true → (going_of n ≤ 2) × ((p || not (held_of n)) ≡ true)
-    go true l p h =
-        let two = leb-true n 2 l in
-        rw (ne_eqb n 3 (omega arith), ne_eqb n 4 (omega arith)) (two, or_true p)
-    go false l true h = (held (leb-false n 2 l) h, refl)
-    go false l false h = absurd (false≢true h)
-
-pub allowed_most : (paused : Bool) (n : ℕ) → way_allowed paused n ≡ true → n ≤ 4
-allowed_most paused n e = go (leb n 2) refl paused (and_r (leb 1 n) _ e)
-  where
-    go : (t : Bool) → leb n 2 ≡ t → (p : Bool) → (t || (p && leb n 4)) ≡ true → n ≤ 4
-    go true l p h = omega (arith, leb-true n 2 l)
-    go false l true h = leb-true n 4 h
-    go false l false h = absurd (false≢true h)
+allowed_way paused n e = grind arith
 
 way_allowed_law : (paused : Bool) (n : ℕ) → going_of n ≤ 2 → (paused || not (held_of n)) ≡ true → (going_of n ≡ 0 → ⊥) → way_allowed paused n ≡ true
-way_allowed_law paused n = go (eqb n 3) refl (eqb n 4) refl
-  where
-    go : (a : Bool) → eqb n 3 ≡ a → (b : Bool) → eqb n 4 ≡ b → cond a 1 (cond b 2 n) ≤ 2 → (paused || not (a || b)) ≡ true
-        → (cond a 1 (cond b 2 n) ≡ 0 → ⊥) → way_allowed paused n ≡ true
-    go true a b f l h d = let p : paused ≡ true = rw (or_false paused) at h in rw (eqb-true n 3 a, p)
-    go false a true b l h d = let p : paused ≡ true = rw (or_false paused) at h in rw (eqb-true n 4 b, p)
-    go false a false b l h d = rw (le-leb 1 n (omega (arith, d)), le-leb n 2 l)
+way_allowed_law paused n = grind arith
 
 -- The aim of a drive, its kind and its target.
 aim_good : (g p : ℕ) (d : Drive) → cond (eqb d.kind 1) (leb 1 (ahead g p d.target)) (eqb d.target origin) ≡ true
     → d.kind ≤ 1 → is_position d.target ≡ true → aimed g p d ≡ true
-aim_good g p d e k t = go (eqb d.kind 1) refl e
-  where
-    go : (u : Bool) → eqb d.kind 1 ≡ u → cond u (leb 1 (ahead g p d.target)) (eqb d.target origin) ≡ true
-        → cond u (is_position d.target && leb 1 (ahead g p d.target)) (eqb d.kind 0 && eqb d.target origin) ≡ true
-    go true u h = rw (t, h)
-    go false u h = rw (eq-eqb d.kind 0 (omega (arith, eqb-false d.kind 1 u)), h)
+aim_good g p d e k t = grind arith
 
 good_aim : (g p : ℕ) (d : Drive) → aimed g p d ≡ true
     → (cond (eqb d.kind 1) (leb 1 (ahead g p d.target)) (eqb d.target origin) ≡ true) × (d.kind ≤ 1) × (is_position d.target ≡ true)
-good_aim g p d e = go (eqb d.kind 1) refl e
-  where
-    go : (u : Bool) → eqb d.kind 1 ≡ u
-        → cond u (is_position d.target && leb 1 (ahead g p d.target)) (eqb d.kind 0 && eqb d.target origin) ≡ true
-        → (cond u (leb 1 (ahead g p d.target)) (eqb d.target origin) ≡ true) × (d.kind ≤ 1) × (is_position d.target ≡ true)
-    go true u h = (and_r (is_position d.target) _ h, omega (arith, eqb-true d.kind 1 u), and_l _ _ h)
-    go false u h =
-        let none = eqb-true d.target origin (and_r (eqb d.kind 0) _ h) in
-        (and_r (eqb d.kind 0) _ h, omega (arith, eqb-true d.kind 0 (and_l _ _ h)), rw none)
+good_aim g p d e = grind arith
 
 -- What byte 32 and byte 44 tell of the motor.
 byte_44 : (b : List ℕ) → (motor_of b).wiring.read ≡ byte_at b 44

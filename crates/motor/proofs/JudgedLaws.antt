@@ -1,5 +1,5 @@
 -- The order in which the code judges a record, and soundness. Assumes nothing.
-use Rattle.std.proofs.Common.{◌≡◌, ℕ, Bool, true, false, cond, not, ◌&&◌, eqb, List, length, sym, refl, arith, eq-eqb, ne_eqb, eqb-true}
+use Rattle.std.proofs.Common.{◌≡◌, ℕ, Bool, true, false, not, ◌&&◌, eqb, List, length, sym, refl, arith, eq-eqb, ne_eqb, eqb-true}
 use mathlib.Core.Bool.{and-true, and-false}
 use borrow.Author.Tests.{eqb-false}
 use Rattle.digits.specs.Bytes.{AllBytes, part, all_zero}
@@ -14,14 +14,7 @@ use Rattle.motor.proofs.DrivingLaws.{sound_judged, judged_sound}
 
 -- Soundness in the order of the code: the tail, and then the rest by what byte 32 tells.
 regroup : (s z t h : Bool) → (s && (z && t) && h) ≡ (t && (s && h && z))
-regroup true true true true = refl
-regroup true true true false = refl
-regroup true true false h = refl
-regroup true false true true = refl
-regroup true false true false = refl
-regroup true false false h = refl
-regroup false z true h = refl
-regroup false z false h = refl
+regroup s z t h = grind arith
 
 in_order : (paused : Bool) (b : List ℕ) → length b ≡ 64
     → sound_under paused b ≡ (all_zero (part b 48 16) && (sound_motor (motor_of b) && held_right paused (motor_of b) && all_zero (part b 45 3)))
@@ -34,14 +27,7 @@ pub tail_judged : (paused listed : Bool) (b : List ℕ) → length b ≡ 64 → 
 tail_judged paused listed b n e = rw (in_order paused b n, e)
 
 together : (w t s c z : Bool) → (w && t && (s && c) && z) ≡ (w && (t && (c && z) && s))
-together true true true true true = refl
-together true true true true false = refl
-together true true true false z = refl
-together true true false true true = refl
-together true true false true false = refl
-together true true false false z = refl
-together true false s c z = refl
-together false t s c z = refl
+together w t s c z = grind arith
 
 standing_judged_law : (paused : Bool) (b : List ℕ) → length b ≡ 64 → AllBytes b → all_zero (part b 48 16) ≡ true → byte_at b 32 ≡ 0
     → sound_under paused b ≡ standing_judged b
@@ -51,12 +37,7 @@ standing_judged_law paused b n bytes t e =
     (together (eqb (word (part b 32 8)) 0) (eqb (long_at b 40) 0) (settings_in_range (motor_of b) && end_flags_in_range (motor_of b).ended) (contacts_right (wiring_of b)) (all_zero (part b 45 3)))
 
 still_way : (n : ℕ) → going_of n ≡ 0 → n ≡ 0
-still_way n = go (eqb n 3) refl (eqb n 4) refl
-  where
-    go : (a : Bool) → eqb n 3 ≡ a → (b : Bool) → eqb n 4 ≡ b → cond a 1 (cond b 2 n) ≡ 0 → n ≡ 0
-    go true a b f h = absurd (omega arith)
-    go false a true b h = absurd (omega arith)
-    go false a false b h = h
+still_way n = grind arith
 
 busy_byte : (b : List ℕ) → (byte_at b 32 ≡ 0 → ⊥) → busy (motor_of b) ≡ true
 unfolding motor_of

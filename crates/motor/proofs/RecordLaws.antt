@@ -1,5 +1,5 @@
 -- A sound motor and its record. Assumes nothing.
-use Rattle.std.proofs.Common.{◌≡◌, ℕ, zero, suc, ◌≤◌, Bool, true, false, cond, not, ◌&&◌, ◌||◌, eqb, List, length, refl, arith, eqb-true}
+use Rattle.std.proofs.Common.{◌≡◌, ℕ, ◌≤◌, Bool, true, false, not, ◌&&◌, ◌||◌, eqb, List, length, refl, arith, eqb-true}
 use Rattle.digits.specs.Bytes.{AllBytes}
 use Rattle.record.specs.declared.Motor.{Motor}
 use Rattle.record.specs.Record.{byte_at, going_of, held_of, motor_of, record_of, rest_zero}
@@ -59,19 +59,7 @@ record_motor_sound b s = and_r (eqb (length b) 64) _ (and_l _ (rest_zero b) s)
 
 -- In a sound record byte 32 is 1 or 2 just where the motor moves.
 way_moves : (n : ℕ) → going_of n ≤ 2 → (eqb n 1 || eqb n 2) ≡ (not (eqb (going_of n) 0) && not (held_of n))
-way_moves n h = go (eqb n 3) refl (eqb n 4) refl h
-  where
-    few : (k : ℕ) → k ≤ 2 → (eqb k 1 || eqb k 2) ≡ (not (eqb k 0) && true)
-    few zero l = refl
-    few (suc zero) l = refl
-    few (suc (suc zero)) l = refl
-    few (suc (suc (suc k))) l = absurd (omega arith)
-
-    go : (a : Bool) → eqb n 3 ≡ a → (b : Bool) → eqb n 4 ≡ b → cond a 1 (cond b 2 n) ≤ 2
-        → (eqb n 1 || eqb n 2) ≡ (not (eqb (cond a 1 (cond b 2 n)) 0) && not (a || b))
-    go true a b f l = rw (eqb-true n 3 a)
-    go false a true b l = rw (eqb-true n 4 b)
-    go false a false b l = few n l
+way_moves n h = grind arith
 
 pub record_moves : (b : List ℕ) → sound_record b ≡ true → (eqb (byte_at b 32) 1 || eqb (byte_at b 32) 2) ≡ moving (motor_of b)
 unfolding moving motor_of

@@ -1,5 +1,5 @@
 -- The fields of one byte, bytes 24 to 31: what their bits tell and what is asked besides. Assumes nothing.
-use Rattle.std.proofs.Common.{◌≡◌, ℕ, zero, suc, ◌*◌, ◌/◌, ◌%◌, ◌<◌, Bool, true, false, not, ◌&&◌, ◌||◌, eqb, leb, List, length, refl, arith, eq-eqb, eqb-true, le-leb, leb-true}
+use Rattle.std.proofs.Common.{◌≡◌, ℕ, ◌%◌, ◌<◌, Bool, true, false, not, ◌&&◌, eqb, leb, List, length, refl, arith, eq-eqb, eqb-true, le-leb, leb-true}
 use mathlib.Core.Bool.{false≢true}
 use lib.Bits.{bit_and}
 use Rattle.digits.specs.Bytes.{AllBytes, part}
@@ -56,30 +56,11 @@ bytes_held b m e n bytes = rw (e) (byte_below b bytes 25 (omega arith), byte_bel
 
 -- End flags that are clear below the upper three bits.
 flags_told : (e : ℕ) → e < 256 → e % 32 ≡ 0 → end_flags_in_range e ≡ (leb e 0x80 && not (eqb e 0x60))
-flags_told e h z = let n : e ≡ 32 * (e / 32) = omega arith in rw (n) (go (e / 32) (omega arith))
-  where
-    go : (k : ℕ) → k < 8 → end_flags_in_range (32 * k) ≡ (leb (32 * k) 0x80 && not (eqb (32 * k) 0x60))
-    go zero l = refl
-    go (suc zero) l = refl
-    go (suc (suc zero)) l = refl
-    go (suc (suc (suc zero))) l = refl
-    go (suc (suc (suc (suc zero)))) l = refl
-    go (suc (suc (suc (suc (suc zero))))) l = refl
-    go (suc (suc (suc (suc (suc (suc zero)))))) l = refl
-    go (suc (suc (suc (suc (suc (suc (suc zero))))))) l = refl
-    go (suc (suc (suc (suc (suc (suc (suc (suc k)))))))) l = absurd (omega arith)
+flags_told e h z = grind arith
 
 -- Of end flags in range those bits are clear.
 flags_upper : (e : ℕ) → end_flags_in_range e ≡ true → e % 32 ≡ 0
-flags_upper e h = go (eqb e 0) refl (eqb e 0x20) refl (eqb e 0x40) refl (eqb e 0x80) refl h
-  where
-    go : (p : Bool) → eqb e 0 ≡ p → (q : Bool) → eqb e 0x20 ≡ q → (r : Bool) → eqb e 0x40 ≡ r → (s : Bool) → eqb e 0x80 ≡ s
-        → (p || q || r || s) ≡ true → e % 32 ≡ 0
-    go true e0 q e1 r e2 s e3 h = let n : e ≡ 0 = eqb-true e 0 e0 in omega arith
-    go false e0 true e1 r e2 s e3 h = let n : e ≡ 0x20 = eqb-true e 0x20 e1 in omega arith
-    go false e0 false e1 true e2 s e3 h = let n : e ≡ 0x40 = eqb-true e 0x40 e2 in omega arith
-    go false e0 false e1 false e2 true e3 h = let n : e ≡ 0x80 = eqb-true e 0x80 e3 in omega arith
-    go false e0 false e1 false e2 false e3 h = absurd (false≢true h)
+flags_upper e h = grind arith
 
 -- What clear bits tell, field by field.
 record Told (m : Motor) : Type 0 where

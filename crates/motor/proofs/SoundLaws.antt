@@ -1,6 +1,5 @@
 -- Soundness of a motor in its parts, and what follows for numbers. Assumes nothing.
-use Rattle.std.proofs.Common.{◌≡◌, ℕ, ◌≤◌, Bool, true, false, cond, ◌&&◌, ◌||◌, eqb, leb, ◌⊎◌, sym, refl, inl, inr, arith, eq-eqb, ne_eqb, eqb-true, le-leb, leb-false, leb-true}
-use mathlib.Core.Bool.{false≢true}
+use Rattle.std.proofs.Common.{◌≡◌, ℕ, ◌≤◌, Bool, true, false, cond, ◌&&◌, ◌||◌, eqb, leb, ◌⊎◌, refl, inl, inr, arith, eq-eqb, eqb-true, le-leb, leb-true}
 use borrow.Author.Tests.{eqb-false, not-true, not-false}
 use Rattle.digits.specs.Places.{origin, is_position, cw, ccw}
 use Rattle.record.specs.declared.Wiring.{Wiring}
@@ -12,40 +11,31 @@ use Rattle.motor.specs.Sound.{is_speed, limits_in_range, speeds_in_range, wiring
 
 -- Of a conjunction that holds, both parts hold.
 pub and_l : (a b : Bool) → (a && b) ≡ true → a ≡ true
-and_l true b e = refl
-and_l false b e = e
+and_l a b e = grind arith
 
 pub and_r : (a b : Bool) → (a && b) ≡ true → b ≡ true
-and_r true b e = e
-and_r false b e = cc
+and_r a b e = grind arith
 
 -- Where the second part holds, the first decides; where it does not, neither does the whole.
 pub and_true : (a : Bool) → (a && true) ≡ a
-and_true true = refl
-and_true false = refl
+and_true a = grind arith
 
 pub and_false : (a : Bool) → (a && false) ≡ false
-and_false true = refl
-and_false false = refl
+and_false a = grind arith
 
 pub or_true : (a : Bool) → (a || true) ≡ true
-or_true true = refl
-or_true false = refl
+or_true a = grind arith
 
 pub or_false : (a : Bool) → (a || false) ≡ a
-or_false true = refl
-or_false false = refl
+or_false a = grind arith
 
 -- Two verdicts are one where each follows from the other.
 pub both_ways : (a b : Bool) → (a ≡ true → b ≡ true) → (b ≡ true → a ≡ true) → a ≡ b
-both_ways true b f g = sym (f refl)
-both_ways false true f g = g refl
-both_ways false false f g = refl
+both_ways a b f g = grind arith
 
 -- One that can not hold does not.
 pub never : (a : Bool) → (a ≡ true → ⊥) → a ≡ false
-never true f = absurd (f refl)
-never false f = refl
+never a f = grind arith
 
 -- "every field is in its range", topic by topic
 pub record InRange (m : Motor) : Type 0 where
@@ -116,9 +106,7 @@ no_drive_law g h k f v t eg eh ek ef ev et = cc
 
 at_rest_law : (d : Drive) → d.going ≡ 0 → at_rest d ≡ true → d ≡ standing
 unfolding at_rest
-at_rest_law d g r =
-    no_drive_law d.going d.held d.kind d.fraction d.speed d.target g (search (and_l, and_r, not-true)) (search (and_l, and_r, eqb-true))
-    (search (and_l, and_r, eqb-true)) (search (and_l, and_r, eqb-true)) (search (and_l, and_r, eqb-true))
+at_rest_law d g r = grind arith
 
 pub sound_standing : (m : Motor) → sound_motor m ≡ true → busy m ≡ false → m.drive ≡ standing
 sound_standing m e d = at_rest_law m.drive (eqb-true _ _ (not-false _ d)) (rw d at (sound_parts m e).way)
@@ -159,23 +147,11 @@ pub record Bounds (m : Motor) : Type 0 where
 
 -- Fields in range lie between their bounds, and so do those of a sound motor.
 flags_bound : (e : ℕ) → end_flags_in_range e ≡ true → e ≤ 128
-flags_bound e h = go (leb e 128) refl
-  where
-    go : (t : Bool) → leb e 128 ≡ t → e ≤ 128
-    go true q = leb-true e 128 q
-    go false q =
-        let above = leb-false e 128 q in
-        absurd (false≢true (rw (ne_eqb e 0 (omega arith), ne_eqb e 0x20 (omega arith), ne_eqb e 0x40 (omega arith), ne_eqb e 0x80 (omega arith)) at h))
+flags_bound e h = grind arith
 
 read_bound : (w : Wiring) → contacts_right w ≡ true → w.read ≤ 1
 unfolding contacts_right
-read_bound w h = go (leb w.read 1) refl
-  where
-    go : (t : Bool) → leb w.read 1 ≡ t → w.read ≤ 1
-    go true q = leb-true w.read 1 q
-    go false q =
-        let above = leb-false w.read 1 q in
-        absurd (false≢true (rw (ne_eqb w.read 0 (omega arith), ne_eqb w.read 1 (omega arith)) at h))
+read_bound w h = grind arith
 
 pub range_bounds : (m : Motor) → InRange m → Bounds m
 unfolding limits_in_range speeds_in_range wiring_in_range setup_in_range drive_in_range

@@ -1,5 +1,5 @@
 -- What is judged of a record without a drive, with zeros where one would stand, and soundness. Assumes nothing.
-use Rattle.std.proofs.Common.{◌≡◌, ℕ, zero, suc, ◌+◌, ◌*◌, ◌%◌, ◌<◌, Bool, true, false, cond, ◌&&◌, eqb, ◌⊎◌, List, length, sym, refl, ◌∙◌, inl, inr, arith, eq-eqb, eqb-true}
+use Rattle.std.proofs.Common.{◌≡◌, ℕ, ◌+◌, ◌*◌, ◌%◌, ◌<◌, Bool, true, false, cond, ◌&&◌, eqb, ◌⊎◌, List, length, sym, refl, ◌∙◌, arith, eq-eqb, eqb-true}
 use Rattle.digits.specs.Bytes.{AllBytes, part, all_zero}
 use Rattle.digits.specs.Words.{word}
 use Rattle.digits.specs.Places.{origin, place_of}
@@ -9,7 +9,7 @@ use Rattle.record.specs.declared.Motor.{Motor}
 use Rattle.record.specs.Record.{byte_at, long_at, drive_of, motor_of, standing}
 use Rattle.motor.specs.Sound.{contacts_right, settings_in_range, end_flags_in_range, drive_in_range, in_range, at_rest, busy, sound_motor, held_right}
 use Rattle.motor.specs.Judged.{told}
-use Rattle.motor.proofs.SoundLaws.{and_l, and_r, and_true, and_false, or_true, both_ways, never}
+use Rattle.motor.proofs.SoundLaws.{and_l, and_r, and_true, and_false, or_true, both_ways}
 
 -- Of a part that is all zero the first word is 0, and what comes after it is all zero.
 zeros_split : (b : List ℕ) (at m n : ℕ) → all_zero (part b at (m + n)) ≡ true
@@ -57,57 +57,24 @@ word_40 b n = rw (← word_44 b n) (word_part b 40 4 4 (omega arith))
 
 -- A word of four bytes that is 1 has 1 in the first of them, and zeros.
 pub first_byte : (r z : ℕ) → r + 256 * z ≡ 1 → (r ≡ 1) × (z ≡ 0)
-first_byte r zero e = omega arith
-first_byte r (suc z) e = absurd (omega arith)
-
-only_one : (t x : ℕ) → t < 4294967296 → t + 4294967296 * x ≡ 4294967296 → (t ≡ 0) × (x ≡ 1)
-only_one t zero h e = absurd (omega arith)
-only_one t (suc x) h e = omega arith
+first_byte r z e = grind arith
 
 -- What bytes 40 to 47 tell where the rules for them hold: no target, and contacts that are read, or unknown and 0.
 told_parts : (t r c z : ℕ) → (eqb t 0 && (cond (eqb r 0) (eqb c 0) (eqb r 1) && eqb z 0)) ≡ true
     → (t ≡ 0) × (z ≡ 0) × ((r ≡ 1) ⊎ ((r ≡ 0) × (c ≡ 0)))
-told_parts t r c z e =
-    let after = and_r (eqb t 0) _ e in
-    (eqb-true t 0 (and_l _ _ e), eqb-true z 0 (and_r (cond (eqb r 0) (eqb c 0) (eqb r 1)) _ after), go (eqb r 0) refl (and_l _ (eqb z 0) after))
-  where
-    go : (u : Bool) → eqb r 0 ≡ u → cond u (eqb c 0) (eqb r 1) ≡ true → (r ≡ 1) ⊎ ((r ≡ 0) × (c ≡ 0))
-    go true u h = inr (eqb-true r 0 u, eqb-true c 0 h)
-    go false u h = inl (eqb-true r 1 h)
+told_parts t r c z e = grind arith
 
 closed_told : (t r c z : ℕ) → (t + 4294967296 * (r + 256 * z) ≡ 4294967296 → ⊥) → (c ≡ 0 → ⊥)
     → (eqb t 0 && (cond (eqb r 0) (eqb c 0) (eqb r 1) && eqb z 0)) ≡ false
-closed_told t r c z f h = never _ (λ e. go (told_parts t r c z e))
-  where
-    go : (t ≡ 0) × (z ≡ 0) × ((r ≡ 1) ⊎ ((r ≡ 0) × (c ≡ 0))) → ⊥
-    go (none, zeros, inl one) = f (omega arith)
-    go (none, zeros, inr (_, clear)) = h clear
+closed_told t r c z f h = grind arith
 
 read_told : (t r c z : ℕ) → t < 4294967296 → t + 4294967296 * (r + 256 * z) ≡ 4294967296
     → (eqb t 0 && (cond (eqb r 0) (eqb c 0) (eqb r 1) && eqb z 0)) ≡ true
-read_told t r c z h e =
-    let one = only_one t (r + 256 * z) h e in
-    let read = first_byte r z one.1 in
-    rw (one.0, read.0, read.1)
+read_told t r c z h e = grind arith
 
 unknown_told : (t r c z : ℕ) → (t + 4294967296 * (r + 256 * z) ≡ 4294967296 → ⊥) → c ≡ 0
     → eqb (t + 4294967296 * (r + 256 * z)) 0 ≡ (eqb t 0 && (cond (eqb r 0) (eqb c 0) (eqb r 1) && eqb z 0))
-unknown_told t r c z f h = both_ways _ _ there back
-  where
-    there : eqb (t + 4294967296 * (r + 256 * z)) 0 ≡ true → (eqb t 0 && (cond (eqb r 0) (eqb c 0) (eqb r 1) && eqb z 0)) ≡ true
-    there e =
-        let all = eqb-true (t + 4294967296 * (r + 256 * z)) 0 e in
-        let none : t ≡ 0 = omega arith in
-        let not-read : r ≡ 0 = omega arith in
-        let zeros : z ≡ 0 = omega arith in
-        rw (none, not-read, zeros, h)
-
-    back : (eqb t 0 && (cond (eqb r 0) (eqb c 0) (eqb r 1) && eqb z 0)) ≡ true → eqb (t + 4294967296 * (r + 256 * z)) 0 ≡ true
-    back e = go (told_parts t r c z e)
-      where
-        go : (t ≡ 0) × (z ≡ 0) × ((r ≡ 1) ⊎ ((r ≡ 0) × (c ≡ 0))) → eqb (t + 4294967296 * (r + 256 * z)) 0 ≡ true
-        go (none, zeros, inl one) = absurd (f (omega arith))
-        go (none, zeros, inr (not-read, _)) = eq-eqb (t + 4294967296 * (r + 256 * z)) 0 (omega arith)
+unknown_told t r c z f h = grind arith
 
 -- So of a record.
 long_below : (b : List ℕ) → length b ≡ 64 → AllBytes b → long_at b 40 < 4294967296
@@ -138,9 +105,7 @@ unfolding place_of
 still_target w h = both_ways _ _ (λ e. eq-eqb w 0 (omega (arith, eqb-true ((w + 2147483648) % 4294967296) origin e))) (λ e. rw (eqb-true w 0 e))
 
 in_turn : (k f s t : Bool) → (k && f && s && t) ≡ (k && (f && (s && t)))
-in_turn true true s t = refl
-in_turn true false s t = refl
-in_turn false f s t = refl
+in_turn k f s t = grind arith
 
 still_zeros : (b : List ℕ) → length b ≡ 64 → AllBytes b → byte_at b 32 ≡ 0 → at_rest (drive_of b) ≡ all_zero (part b 32 12)
 unfolding at_rest

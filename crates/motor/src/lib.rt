@@ -247,13 +247,12 @@ pub fn is_moving(m: Motor) -> bool
     !m.drive.held && is_busy(m)
 }
 
-// Whether byte 32 is a drive's in a sound table: 3 and 4, held drives, under pause alone. One less than 0 wraps, so that one comparison
-// leaves out both ends.
+// Whether byte 32 is a drive's in a sound table: 3 and 4, held drives, under pause alone.
 fn way_right(paused: bool, n: u8) -> bool
     ensures { result ≡ way_allowed paused n }
 {
     let most = if paused { 4 } else { 2 };
-    (n as u32).wrapping_sub(1) < most
+    1 <= n && n <= most
 }
 
 // Whether a record with a drive is sound in a table, its bytes from 48 on aside. Byte 44 is 1, and 45 to 47 are zero, just where

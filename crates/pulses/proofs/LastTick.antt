@@ -13,7 +13,7 @@ use Rattle.motor.specs.Switches.{edge, room}
 use Rattle.motor.specs.Sound.{aim_right, busy, moving, sound_motor}
 use Rattle.motor.proofs.MovingLaws.{moving_busy, carried_moves}
 use Rattle.motor.proofs.SoundLaws.{sound_busy, sound_bounds}
-use Rattle.motor.proofs.RoomLaws.{moved_none, moved_twice, ahead_moved, moved_ahead, room_moved}
+use Rattle.motor.proofs.RoomLaws.{ahead_moved, moved_ahead, room_moved}
 use Rattle.pulses.specs.declared.Ticked.{Ticked}
 use Rattle.drive.specs.Drives.{ended_with}
 use Rattle.pulses.specs.Ticks.{tick_speed, rest, to_target, distance_left, room_left, given, tick_motor, ticks, rounded_up}
@@ -61,16 +61,10 @@ arrived m = ended_with 0 (with_place m m.drive.target)
 
 -- A motor with its fraction below 1,000 is where its fraction says, and t thousandths and then v more are t + v.
 pub driven_none : (m : Motor) → m.drive.fraction < 1000 → driven_by m.drive.fraction m ≡ m
-driven_none m h =
-    let whole : m.drive.fraction / 1000 ≡ 0 = omega arith in
-    let part : m.drive.fraction % 1000 ≡ m.drive.fraction = omega arith in
-    rw (whole, part, moved_none)
+driven_none m h = grind arith
 
 pub driven_more : (t v : ℕ) (m : Motor) → driven_by (t % 1000 + v) (driven_by t m) ≡ driven_by (t + v) m
-driven_more t v m =
-    let whole : t / 1000 + (t % 1000 + v) / 1000 ≡ (t + v) / 1000 = omega arith in
-    let part : (t % 1000 + v) % 1000 ≡ (t + v) % 1000 = omega arith in
-    rw (moved_twice, whole, part)
+driven_more t v m = grind arith
 
 -- a drive to a target that lies ahead, within room, with a fraction and a speed in their ranges
 pub record OnCourse (m : Motor) : Type 0 where

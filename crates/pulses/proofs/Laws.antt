@@ -1,11 +1,10 @@
 -- Laws of a tick's pulses, for every motor, sound or not. Assumes nothing.
-use mathlib.Core.Path.{◌≡◌, refl}
-use mathlib.Core.Bool.{Bool, true, false, cond}
+use mathlib.Core.Path.{◌≡◌}
+use mathlib.Core.Bool.{true, false}
 use Prim.Native.Nat.{ℕ, ◌+◌, ◌*◌, ◌<◌, ◌≤◌}
 use native.Mathlib.Nat.{div-add-mod, mod-lt}
 use native.Mathlib.Omega.{arith}
-use lib.Dec.{eqb}
-use Rattle.digits.specs.Places.{cw, count_of}
+use Rattle.digits.specs.Places.{count_of}
 use Rattle.record.specs.declared.Motor.{Motor}
 use Rattle.motor.specs.Sound.{moving}
 use Rattle.pulses.specs.Ticks.{tick_speed, due, rest, to_target, distance_left, room_left, given, tick_motor, tick_count}
@@ -27,11 +26,7 @@ given_due m = omega arith
 
 pub given_room : (m : Motor) → given m ≤ room_left m
 unfolding given
-given_room m = go (to_target m) refl
-  where
-    go : (t : Bool) → to_target m ≡ t → given m ≤ room_left m
-    go true e = rw e (omega arith)
-    go false e = rw e (omega arith)
+given_room m = grind arith
 
 pub given_distance : (m : Motor) → to_target m ≡ true → given m ≤ distance_left m
 unfolding given
@@ -54,11 +49,7 @@ stopped_given_none m e = rw e
 -- Its count is 0: no pulses are counted 0 in either direction.
 none_counted : (going : ℕ) → count_of going 0 ≡ 0
 unfolding count_of
-none_counted going = go (eqb going cw)
-  where
-    go : (t : Bool) → ◌≡◌ {A = ℕ} (cond t 0 0) 0
-    go true = refl
-    go false = refl
+none_counted going = grind arith
 
 pub stopped_count : (m : Motor) → moving m ≡ false → tick_count m ≡ 0
 unfolding tick_count

@@ -1,11 +1,10 @@
 -- Laws of one tick, for every motor, sound or not. Assumes nothing.
 use mathlib.Core.Path.{◌≡◌, refl, sym, ◌∙◌}
-use mathlib.Core.Bool.{Bool, true, false, ◌&&◌, cond, false≢true}
-use mathlib.Core.Logic.{◌⊎◌, inl, inr, ⊎_elim}
+use mathlib.Core.Bool.{Bool, true, false, cond, false≢true}
+use mathlib.Core.Logic.{◌⊎◌, inl, inr}
 use Prim.Native.Nat.{ℕ, ◌+◌, ◌*◌, ◌≤◌, ◌<◌, min}
 use native.Mathlib.Omega.{arith}
-use lib.Dec.{eqb, leb}
-use borrow.Author.Tests.{leb-true, leb-false, eqb-true, eqb-false}
+use borrow.Author.Tests.{eqb-true, eqb-false}
 use Rattle.digits.specs.Places.{moved}
 use Rattle.record.specs.declared.Motor.{Motor}
 use Rattle.record.specs.Record.{standing}
@@ -18,17 +17,9 @@ use Rattle.pulses.specs.Ticks.{tick_speed, due, rest, to_target, distance_left, 
 use Rattle.pulses.proofs.Laws.{nothing_rounded, given_due, given_room, given_distance, still_speed}
 
 -- "Pulses given are the least of due, room and, for a target, the distance left": they are one of the three.
-least_of_two : (a b : ℕ) → (min a b ≡ a) ⊎ (min a b ≡ b)
-least_of_two a b = go (leb a b) refl
-  where
-    go : (t : Bool) → leb a b ≡ t → (min a b ≡ a) ⊎ (min a b ≡ b)
-    go true e = inl (omega (arith, leb-true a b e))
-    go false e = inr (omega (arith, leb-false a b e))
-
 least : (t : Bool) (d r a : ℕ)
     → (min d (cond t (min r a) r) ≡ d) ⊎ ((min d (cond t (min r a) r) ≡ r) ⊎ ((t ≡ true) × (min d (cond t (min r a) r) ≡ a)))
-least true d r a = ⊎_elim inl (λ e. inr (⊎_elim (λ f. inl (e ∙ f)) (λ f. inr (refl, e ∙ f)) (least_of_two r a))) (least_of_two d (min r a))
-least false d r a = ⊎_elim inl (λ e. inr (inl e)) (least_of_two d r)
+least t d r a = grind arith
 
 pub given_least :
     (m : Motor) → (given m ≡ due m) ⊎ ((given m ≡ room_left m) ⊎ ((to_target m ≡ true) × (given m ≡ distance_left m)))
@@ -39,11 +30,7 @@ given_least m = least (to_target m) (due m) (room_left m) (distance_left m)
 -- are fewer.
 pub reached_all : (m : Motor) → reached m ≡ true → (to_target m ≡ true) × (given m ≡ distance_left m)
 unfolding reached
-reached_all m = go (to_target m)
-  where
-    go : (t : Bool) → (t && eqb (given m) (distance_left m)) ≡ true → (t ≡ true) × (given m ≡ distance_left m)
-    go true e = (refl, eqb-true _ _ e)
-    go false e = (e, cc)
+reached_all m = grind arith
 
 pub reached_not : (m : Motor) → reached m ≡ false → to_target m ≡ true → given m < distance_left m
 unfolding reached

@@ -2,15 +2,15 @@
 -- Assumes nothing.
 use mathlib.Core.Path.{◌≡◌, refl, sym, ap, ◌∙◌}
 use mathlib.Core.List.{List, [], ◌∷◌, ◌++◌}
-use mathlib.Core.Bool.{Bool, true, false, ◌||◌, cond, false≢true}
+use mathlib.Core.Bool.{Bool, true, false}
 use Prim.Native.Nat.{ℕ, ◌+◌, ◌≤◌, ◌<◌}
 use native.Mathlib.Omega.{arith}
 use lib.ListN.{length, get_or, replicate}
 use lib.Dec.{eqb}
-use borrow.Author.Tests.{eqb-true, eqb-false, ne_eqb}
+use borrow.Author.Tests.{eqb-true}
 use Rattle.digits.specs.Bytes.{AllBytes, part, joined, all_zero}
 use Rattle.digits.specs.Words.{word, word_bytes}
-use Rattle.digits.specs.Places.{word_of, cw, ccw}
+use Rattle.digits.specs.Places.{word_of}
 use Rattle.digits.proofs.PartLaws.{append_bytes, cons_bytes, none_bytes, zeros_bytes, part_length, part_add, part_bytes, part_one, zero_bytes, part_whole, cut_joined}
 use Rattle.digits.proofs.WordLaws.{byte_word, word_bytes_law, bytes_word, word_below, word_bytes_bytes}
 use Rattle.digits.proofs.Signed.{place_bytes_law, word_place}
@@ -32,32 +32,13 @@ pub record FitsRecord (m : Motor) : Type 0 where
   pub speed : m.drive.speed < 4294967296
   pub target : m.drive.target < 4294967296
 
--- A byte 32 that tells no held drive is the direction.
-pub free_way : (n : ℕ) → held_of n ≡ false → n ≡ going_of n
-free_way n = go (eqb n 3) (eqb n 4)
-  where
-    go : (a b : Bool) → (a || b) ≡ false → n ≡ cond a cw (cond b ccw n)
-    go true b e = absurd (false≢true (sym e))
-    go false true e = absurd (false≢true (sym e))
-    go false false e = refl
-
 -- what byte 32 tells of a drive is its direction and whether it is held, as it is of a drive that has a direction where it is held
 pub record FitsWay (d : Drive) : Type 0 where
   pub going : going_of (going_byte d) ≡ d.going
   pub held : held_of (going_byte d) ≡ d.held
 
 pub way_fits : (d : Drive) → d.going ≤ 2 → (d.going ≡ 0 → d.held ≡ false) → FitsWay d
-way_fits d below still = go d.held refl
-  where
-    go : (t : Bool) → d.held ≡ t → FitsWay d
-    go false e = let three = ne_eqb d.going 3 (omega arith) in let four = ne_eqb d.going 4 (omega arith) in record { going = rw (e, three, four); held = rw (e, three, four) }
-    go true e = way (eqb d.going cw) refl
-      where
-        way : (t : Bool) → eqb d.going cw ≡ t → FitsWay d
-        way true w = let is = eqb-true d.going cw w in record { going = rw (e, is); held = rw (e, is) }
-        way false w =
-            let some : (d.going ≡ 0) → ⊥ = λ z. false≢true (sym (still z) ∙ e) in
-            let is : d.going ≡ ccw = omega (arith, below, some, eqb-false d.going cw w) in record { going = rw (e, is); held = rw (e, is) }
+way_fits d below still = grind arith
 
 -- Written and read back is the same motor.
 pub written_read : (m : Motor) → FitsRecord m → FitsWay m.drive → motor_of (record_of m) ≡ m
@@ -102,12 +83,7 @@ pub record FitsBytes (m : Motor) : Type 0 where
 
 -- Byte 32 is a byte where the direction is.
 pub way_below : (d : Drive) → d.going < 256 → going_byte d < 256
-way_below d h = go d.held (eqb d.going cw)
-  where
-    go : (t u : Bool) → cond t (cond u 3 4) d.going < 256
-    go true true = omega arith
-    go true false = omega arith
-    go false u = h
+way_below d h = grind arith
 
 limit_bytes_law : (l : Limits) → AllBytes (limit_bytes l)
 unfolding joined

@@ -308,8 +308,8 @@ fn put_rest(b: &mut [u8; 64], m: Motor)
     b[45..].fill(0);
 }
 
-// Writes a motor's record: every one of its 64 bytes. This and what follows are lent a slice, and no array: of a part of a table that is lent
-// on as an array, the proof of `write_record` learns nothing of what is written back.
+// Writes a motor's record: every one of its 64 bytes. This and what follows are lent a slice, and no array: of a part of a table that is
+// lent on as an array, the proof of `write_record` (crate table) learns nothing of what is written back.
 pub fn write_motor(b: &mut [u8], m: Motor)
     requires { length b.old ≡ 64 }
     ensures { b.new ≡ record_of m }
