@@ -1,5 +1,5 @@
-// Numbers of the bench: words of bytes, low byte first; positions as places; sets of channels; a choice between two numbers, and the bits
-// of a byte. What they are is said in specs/.
+// Numbers of the bench: words of bytes, low byte first; positions as places; sets of channels; and the bits of a byte.
+// What they are is said in specs/.
 
 #![tactic(auto)]
 
@@ -7,15 +7,8 @@ pub mod places;
 pub mod sets;
 pub mod words;
 
-ghost use Rattle.std.specs.Prelude.{◌≡◌, if◌then◌else◌};
+ghost use Rattle.std.specs.Prelude.{◌≡◌};
 ghost use Rattle.digits.specs.Words.{is_set};
-
-// One of two numbers, by a test.
-pub fn choose(t: bool, a: u32, b: u32) -> u32
-    ensures { result ≡ (if t then a else b) }
-{
-    if t { a } else { b }
-}
 
 // Whether bit k of a byte is set. A byte has no bit past the seventh, and that one is not set.
 pub fn is_set(k: u8, n: u8) -> bool

@@ -88,46 +88,6 @@ impl Word for u64 {
     }
 }
 
-// The byte that stands at a place.
-pub fn byte_at(s: &[u8], at: usize) -> u8
-    requires { at + 1 ≤ length s.now }
-    ensures { result ≡ word (part s.now at 1) }
-{
-    Word::read_at(s, at)
-}
-
-// The number in the two bytes from a place on.
-pub fn short_at(s: &[u8], at: usize) -> u16
-    requires { at + 2 ≤ length s.now }
-    ensures { result ≡ word (part s.now at 2) }
-{
-    Word::read_at(s, at)
-}
-
-// The number in the four bytes from a place on.
-pub fn long_at(s: &[u8], at: usize) -> u32
-    requires { at + 4 ≤ length s.now }
-    ensures { result ≡ word (part s.now at 4) }
-{
-    Word::read_at(s, at)
-}
-
-// The number in the eight bytes from a place on.
-pub fn wide_at(s: &[u8], at: usize) -> u64
-    requires { at + 8 ≤ length s.now }
-    ensures { result ≡ word (part s.now at 8) }
-{
-    Word::read_at(s, at)
-}
-
-// Writes a number into the four bytes from a place on.
-pub fn put_long(s: &mut [u8], at: usize, n: u32)
-    requires { at + 4 ≤ length s.old }
-    ensures { s.new ≡ put s.old at (word_bytes 4 n) }
-{
-    n.put_at(s, at)
-}
-
 // Zeroes the first 64 bytes.
 pub fn zero_front(s: &mut [u8])
     requires { 64 ≤ length s.old }

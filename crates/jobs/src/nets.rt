@@ -6,7 +6,7 @@ ghost use Rattle.jobs.specs.Bounds.{NetsWithin, CountsWithin, most_net, most_cou
 ghost use Rattle.jobs.specs.Texts.{nets_after};
 
 use digits::places::{ORIGIN, place_of};
-use digits::words::long_at;
+use digits::words::Word;
 
 // A net with one more count. The sum of the two places may not fit before the origin is taken off, and a u64 holds it.
 fn added(net: u32, place: u32) -> u32
@@ -22,6 +22,6 @@ pub fn add_counts(nets: &mut [u32; 16], pulses: &[u8; 64])
     ensures { nets.new ≡ nets_after nets.old pulses.now }
 {
     for c in 0..16 {
-        nets[c] = added(nets[c], place_of(long_at(pulses, 4 * c)));
+        nets[c] = added(nets[c], place_of(u32::read_at(pulses, 4 * c)));
     }
 }

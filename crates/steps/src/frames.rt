@@ -6,7 +6,7 @@ ghost use Rattle.std.specs.Prelude.{◌≡◌, ◌+◌, ◌<◌, ◌≤◌, leng
 ghost use Rattle.steps.specs.Fields.{ended, is_cut, value_size, frame_at, channel_at, double_at};
 
 use crate::{Cause, Fault};
-use digits::words::{byte_at, short_at, wide_at};
+use digits::words::Word;
 use doubles::double_of;
 
 // The tags of a list's fields. They stay bytes, since a list may have any byte in the place of a tag.
@@ -59,7 +59,7 @@ impl<'a> Field<'a> {
         ensures { result ≡ is_cut self.entry.list.now self.entry.at }
     {
         let left = self.list.len() - self.at;
-        left < 3 || left - 3 < short_at(self.list, self.at + 1) as usize
+        left < 3 || left - 3 < u16::read_at(self.list, self.at + 1) as usize
     }
 
     // Its tag, where tag a or b is to stand, or what refuses it, its value aside.
@@ -72,11 +72,11 @@ impl<'a> Field<'a> {
         if self.is_cut() {
             return Err(Cause::CutShort.at(self.at));
         }
-        let tag = byte_at(self.list, self.at);
+        let tag = u8::read_at(self.list, self.at);
         if tag != a && tag != b {
             return Err(Cause::TagOrOrder.at(self.at));
         }
-        if short_at(self.list, self.at + 1) != value_size(tag) {
+        if u16::read_at(self.list, self.at + 1) != value_size(tag) {
             return Err(Cause::WrongLength.at(self.at));
         }
         Ok(tag)
@@ -87,7 +87,7 @@ impl<'a> Field<'a> {
         requires { self.at + 4 ≤ length self.list.now }
         ensures { result ≡ channel_at self.entry.list.now self.entry.at }
     {
-        byte_at(self.list, self.at + 3)
+        u8::read_at(self.list, self.at + 3)
     }
 
     // The double of its value.
@@ -95,6 +95,6 @@ impl<'a> Field<'a> {
         requires { self.at + 11 ≤ length self.list.now }
         ensures { result ≡ double_at self.entry.list.now self.entry.at }
     {
-        double_of(wide_at(self.list, self.at + 3))
+        double_of(u64::read_at(self.list, self.at + 3))
     }
 }
