@@ -7,7 +7,6 @@
 pub mod numbers;
 
 ghost use Rattle.std.specs.Prelude.{◌≡◌};
-ghost use Rattle.record.specs.Record.{with_drive};
 ghost use Rattle.drive.specs.Drives.{speed_numbered, course_to, towards, hindrance, judge_start, launched, started, released};
 ghost use Rattle.drive.specs.Drives.{ended_with, judge_speed_change, speed_changed, contacted, switch_read};
 
@@ -48,17 +47,6 @@ pub enum Refusal {
 
 // How a call is judged: it is done, or refused by a cause.
 pub type Verdict = Result<(), Refusal>;
-
-// The motor with other end flags and another drive.
-pub fn with_drive(m: Motor, ended: u8, d: Drive) -> Motor
-    ensures { result ≡ with_drive m ended d }
-{
-    Motor {
-        ended,
-        drive: d,
-        ..m
-    }
-}
 
 // One of LSPD, MSPD and HSPD, by its number.
 #[tactic(auto, unfolding(crate::specs::Drives::speed_numbered))]
@@ -150,7 +138,7 @@ fn launch(paused: bool, m: Motor, going: u8, kind: u8, target: u32) -> Motor
         speed,
         target,
     };
-    with_drive(m, 0, d)
+    m.with_drive(0, d)
 }
 
 // The motor after an accepted start: a scan either way, to a target, or nowhere; held where pause is on.
@@ -186,7 +174,7 @@ pub fn release(m: Motor) -> Motor
 pub fn end_drive(m: Motor, flags: u8) -> Motor
     ensures { result ≡ ended_with flags m }
 {
-    with_drive(m, flags, no_drive())
+    m.with_drive(flags, no_drive())
 }
 
 // How a change of the speed in force is judged.

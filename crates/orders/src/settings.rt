@@ -88,10 +88,7 @@ pub fn with_setting(m: Motor, s: Setting) -> Motor
     ensures { result ≡ with_setting m s }
 {
     match s {
-        Setting::Preset(w) => Motor {
-            place: place_written(w),
-            ..m
-        },
+        Setting::Preset(w) => m.with_place(place_written(w)),
         Setting::SetCwLimit(w) => Motor {
             limits: Limits {
                 cw: place_written(w),

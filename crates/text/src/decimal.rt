@@ -48,7 +48,7 @@ pub fn digits_at(s: &[u8], at: usize) -> usize
 }
 
 // A number by its digits, if there are any.
-fn number_of(value: u64, count: usize) -> Option<Digits>
+fn counted(value: u64, count: usize) -> Option<Digits>
     ensures { result ≡ cond (leb 1 count) (Some (record { value = value; count = count })) None }
 {
     if 1 <= count {
@@ -67,7 +67,7 @@ pub fn number_at(s: &[u8], at: usize) -> Option<Digits>
     for i in at..s.len() {
         let b = s[i];
         if !is_digit(b) {
-            return number_of(value, i - at);
+            return counted(value, i - at);
         }
         if i - at == 10 {
             return None;
@@ -75,7 +75,7 @@ pub fn number_at(s: &[u8], at: usize) -> Option<Digits>
         value = 10 * value + digit_value(b);
         end = i + 1;
     }
-    number_of(value, end - at)
+    counted(value, end - at)
 }
 
 // The first of 10, 100, .. that is above n says how many digits n has.

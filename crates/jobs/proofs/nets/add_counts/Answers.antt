@@ -13,13 +13,13 @@ added-requires c =
     let a = c.args in
     let n : get_or c.loop-c.nets c.loop-c.c 0 ≡ get_or a.nets.now c.loop-c.c origin =
     rw (c.loop-c.invariant, up_to_next) (get_or_default a.nets.now c.loop-c.c 0 origin (omega arith)) in
-    let p : c.place_of.result ≡ count_at a.pulses.now c.loop-c.c = rw (c.place_of.ensures, c.long_at.ensures) in
+    let p : c.place_of.result ≡ count_at a.pulses.now c.loop-c.c = rw (c.place_of.ensures, c.read_at.ensures) in
     rw (n, p) (omega (arith, c.requires.0 c.loop-c.c, c.requires.1 c.loop-c.c))
 
 pub loop-c-preserved : goal.loop-c-preserved
 loop-c-preserved c =
     let a = c.args in
-    rw (c.added.ensures, c.place_of.ensures, c.long_at.ensures, c.loop-c.invariant, up_to_next, add-one c.loop-c.c)
+    rw (c.added.ensures, c.place_of.ensures, c.read_at.ensures, c.loop-c.invariant, up_to_next, add-one c.loop-c.c)
     (up_to_more c.loop-c.c a.nets.now a.pulses.now (omega arith))
 
 pub returns : goal.returns

@@ -18,7 +18,7 @@ returns-then-not-is_digit c =
     let l = c.loop-i in
     let s = c.args.s.now in
     let none = digits_none s l.i (omega arith) (sym c.is_digit.ensures ∙ c.if-not-is_digit.true) in
-    c.number_of.ensures ∙ number_counted (drop c.args.at s) l.value (l.i - c.args.at) (omega (arith, none)) l.invariant.1 l.invariant.3.1
+    c.counted.ensures ∙ number_counted (drop c.args.at s) l.value (l.i - c.args.at) (omega (arith, none)) l.invariant.1 l.invariant.3.1
 
 pub returns-then-i-at-eq10 : goal.returns-then-i-at-eq10
 returns-then-i-at-eq10 c =
@@ -48,4 +48,4 @@ returns c =
     let l = c.loop-i in
     let s = c.args.s.now in
     let none = digits_past s l.i (omega arith) in
-    rw (c.number_of-2.ensures, l.invariant.2) (number_counted (drop c.args.at s) l.value (l.i - c.args.at) (omega (arith, none)) l.invariant.1 l.invariant.3.1)
+    rw (c.counted-2.ensures, l.invariant.2) (number_counted (drop c.args.at s) l.value (l.i - c.args.at) (omega (arith, none)) l.invariant.1 l.invariant.3.1)
