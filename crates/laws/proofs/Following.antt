@@ -12,6 +12,7 @@ use borrow.Author.Tests.{eq-eqb, ne_eqb, eqb-true, eqb-false, leb-true, leb-fals
 use Rattle.record.specs.declared.Motor.{Motor}
 use Rattle.motor.specs.Sound.{end_flags_in_range, busy, sound_motor, held_right}
 use Rattle.motor.proofs.SoundLaws.{and_r, or_true}
+use Rattle.drive.specs.Numbers.{Verdict}
 use Rattle.drive.specs.declared.Refusal.TheVariants.{Busy, OutOfRange, LocalMode, NotDriving}
 use Rattle.drive.specs.Numbers.{number_of}
 use Rattle.drive.proofs.NumberLaws.{numbered}
@@ -90,7 +91,7 @@ flags_in_range flags = go (eqb flags ssend) refl (eqb flags esend) refl
     go false a true b e = rw (eqb-true flags esend b)
     go false a false b e = absurd (false≢true e)
 
-goes_on_law : (b : Bool) → cond b (Ok tt) (Err NotDriving) ≡ (Ok tt) → b ≡ true
+goes_on_law : (b : Bool) → cond {A = Verdict} b (Ok tt) (Err NotDriving) ≡ Ok tt → b ≡ true
 goes_on_law true e = refl
 goes_on_law false e = cc
 

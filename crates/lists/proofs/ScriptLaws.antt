@@ -13,13 +13,11 @@ use lib.IntN.{pos}
 use lib.Ieee.{binary64, of_int}
 use borrow.Author.Tests.{eq-eqb, ne_eqb, le-leb, leb-false, not-true}
 use Rattle.digits.specs.Places.{origin}
-use Rattle.text.specs.declared.decimal.Number.TheVariants as N
 use Rattle.text.specs.Text.{bytes, same, is_digit, hex_digit, digit_byte, digit_count, digits_at_front, number_at_front, last_digits, decimal, sign_byte, distance, signed_decimal}
 use Rattle.text.proofs.TextLaws.{number_back, decimal_within, signed_within}
 use Rattle.text.proofs.BackLaws.{hex_back, five_within, two_reached, first_digit, digit_at_law}
 use Rattle.line.specs.declared.Fields.{Fields}
-use Rattle.line.specs.declared.Got.{Got}
-use Rattle.line.specs.declared.Got.TheVariants.{Here}
+use Rattle.line.specs.Shapes.{Got}
 use Rattle.line.specs.declared.Order.{Order}
 use Rattle.line.specs.declared.Order.TheVariants.{Go, Set}
 use Rattle.line.specs.declared.Start.TheVariants.{Abs, Rel}
@@ -47,7 +45,7 @@ use Rattle.lists.specs.Script.{taken_as, is_other, script_from, is_script}
 -- ---- the command lines
 
 -- a number as it is read
-plain_read : (n : ℕ) → n < 10000000000 → number_at_front (plain_text n) ≡ N.Read n (length (plain_text n))
+plain_read : (n : ℕ) → n < 10000000000 → number_at_front (plain_text n) ≡ Some (record { value = n; count = length (plain_text n) })
 unfolding digits_at_front
 plain_read n h = rw (append-nil (plain_text n)) at (number_back 1 n [] (omega arith) h refl)
 
@@ -65,7 +63,7 @@ unfolding as_row fields_as_row bytes same read_fields read_channel
 select_row c h = rw ((hex_back c h).0, (hex_back c h).1)
 
 -- a signed number as it is read, its sign aside
-distance_read : (p : ℕ) → p ≤ 4294967295 → number_at_front (plain_text (distance p)) ≡ N.Read (distance p) (length (plain_text (distance p)))
+distance_read : (p : ℕ) → p ≤ 4294967295 → number_at_front (plain_text (distance p)) ≡ Some (record { value = distance p; count = length (plain_text (distance p)) })
 distance_read p h = plain_read (distance p) (go (leb origin p))
   where
     go : (t : Bool) → cond t (p - origin) (origin - p) < 10000000000
@@ -77,7 +75,7 @@ abbrev started : ℕ → ℕ → Fields
 started c p = with_written (with_channel no_fields c) (not (leb origin p)) (distance p)
 
 signed_fields : (i j k c p : ℕ) → c < 16 → p ≤ 4294967295
-    → read_fields x±d no_fields (i ∷ j ∷ k ∷ hex_digit c ∷ signed_text p) 3 ≡ Here (started c p) (length (i ∷ j ∷ k ∷ hex_digit c ∷ signed_text p))
+    → read_fields x±d no_fields (i ∷ j ∷ k ∷ hex_digit c ∷ signed_text p) 3 ≡ Some ((started c p), (length (i ∷ j ∷ k ∷ hex_digit c ∷ signed_text p)))
 unfolding read_fields read_channel read_signed read_number signed_decimal
 signed_fields i j k c p h l =
     rw ((hex_back c h).0, (hex_back c h).1, distance_read p l)
@@ -85,12 +83,12 @@ signed_fields i j k c p h l =
   where
     go : (t : Bool) (d n m : ℕ) → 5 + n ≡ m → (z : Got)
         → onward
-        (cond (eqb (cond t 43 45) 43) (Here (with_written (with_channel no_fields c) false d) (5 + n))
-        (cond (eqb (cond t 43 45) 45) (Here (with_written (with_channel no_fields c) true d) (5 + n)) z))
-        (λ g to. Here g to)
-        ≡ Here (with_written (with_channel no_fields c) (not t) d) m
-    go true d n m e z = ap (λ (q : ℕ). Here (with_written (with_channel no_fields c) false d) q) e
-    go false d n m e z = ap (λ (q : ℕ). Here (with_written (with_channel no_fields c) true d) q) e
+        (cond (eqb (cond t 43 45) 43) (Some ((with_written (with_channel no_fields c) false d), (5 + n)))
+        (cond (eqb (cond t 43 45) 45) (Some ((with_written (with_channel no_fields c) true d), (5 + n))) z))
+        (λ g to. Some (g, to))
+        ≡ Some ((with_written (with_channel no_fields c) (not t) d), m)
+    go true d n m e z = ap (λ (q : ℕ). Some ((with_written (with_channel no_fields c) false d), q)) e
+    go false d n m e z = ap (λ (q : ℕ). Some ((with_written (with_channel no_fields c) true d), q)) e
 
 absolute_row : (c p : ℕ) → c < 16 → p ≤ 4294967295 → as_row (row "ABS" x±d (starting (λ f. Abs f.written))) (bytes "ABS" ++ (hex_digit c ∷ signed_text p)) ≡ Some (Go c (Abs (started c p).written))
 unfolding as_row fields_as_row bytes same
@@ -164,7 +162,7 @@ unfolding bytes job_of lettered
 wait_taken first n h l =
     let s = plain_text n in
     let other : eqb (get_or s 0 0) (code "0") ≡ false = ne_eqb (get_or s 0 0) (code "0") (λ z. absurd (omega (arith, first_digit n h (omega arith)))) in
-    rw (wait_read s n (length s) (plain_read n (omega arith)), eq-eqb (length s) (length s) refl, le-leb (length s) 5 (five_within n (omega arith)), other, le-leb n 10000 l)
+    rw (wait_read s (record { value = n; count = length s }) (plain_read n (omega arith)), eq-eqb (length s) (length s) refl, le-leb (length s) 5 (five_within n (omega arith)), other, le-leb n 10000 l)
 
 -- ---- the last line
 
