@@ -1,4 +1,5 @@
-// What an accepted order changes in the table.
+// What an accepted order changes in the table. That the table is sound, or at least sealed, and the value in its range, stands beside them
+// and not in types: between two writes a table is neither (`Table`), and an order is judged only after it is made.
 
 ghost use Rattle.std.specs.Prelude.{◌≡◌, true, ◌≤◌};
 ghost use Rattle.digits.specs.Words.{is_set};

@@ -14,11 +14,11 @@ use digits::places::{CCW, CW, HIGHEST, LOWEST, ORIGIN, place_ahead};
 use motor::{is_blocked, is_busy, is_unread, range_end, room_of};
 use record::{Drive, Motor, Speeds, Wiring, no_drive};
 
-// The end flag of a drive that a switch or the end of its room ended.
+// The end flag of a drive that a switch or the end of its room ended. It is a bit among others in a record's byte.
 pub const LSEND: u8 = 0x20;
 
 // Where a start wants a motor to go: nowhere, since it is there; beyond the positions' range; to a place; or on in a
-// direction until something ends it.
+// direction until something ends it. The direction is a byte because a Scan's is one, and it is handed on as it is.
 #[derive(Clone, Copy)]
 pub enum Course {
     Stay,

@@ -5,6 +5,7 @@ ghost use Rattle.drive.specs.Numbers.{number_of, flag_bit};
 
 use crate::{Refusal, Verdict};
 
+// It is no `From`: an impl stands with one of its types, and a Verdict is the library's Result.
 #[tactic(auto, unfolding(crate::specs::Numbers::number_of))]
 pub fn number_of(v: Verdict) -> u32
     ensures { result ≡ number_of v }
@@ -27,7 +28,7 @@ pub fn number_of(v: Verdict) -> u32
     }
 }
 
-// The bit of the error flags: what is no other number's is the last one.
+// The bit of the error flags: what is no other number's is the last one. It takes any number, 4 and those above 14 too.
 #[tactic(auto, unfolding(crate::specs::Numbers::flag_bit))]
 pub fn flag_bit(n: u32) -> u8
     ensures { (result ≡ flag_bit n) × (result ≤ 3) }

@@ -9,7 +9,7 @@ use crate::rows::*;
 use digits::places::{CCW, CW};
 use line::{Fields, HeadOrder, HeadQuestion, Order, Question, Setting, Start};
 
-// The speeds by number, and the end flags of the stops.
+// The speeds by number, and the end flags of the stops, as an Order carries them.
 const LSPD: u8 = 0;
 
 const MSPD: u8 = 1;

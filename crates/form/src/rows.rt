@@ -1,4 +1,5 @@
-// The rows of the forms by number, in document 01's order of the lines, and the row that a word has.
+// The rows of the forms by number, in document 01's order of the lines, and the row that a word has. They are places in the list `forms`,
+// and no enum: `tail_of` and `order_of` take every number, and the list of the documents stays the one that orders them.
 
 ghost use Rattle.std.specs.Prelude.{true, false, ◌++◌};
 ghost use Rattle.line.specs.Forms.{question_rows, head_rows, request_rows};

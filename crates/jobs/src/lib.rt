@@ -9,7 +9,8 @@ pub mod reading;
 pub mod texts;
 
 // What a line of a script asks for: a command line, which stands after its first two bytes; a switch reading of a channel; a number
-// of ticks; or the four-motor card, asked for by the first line alone. Any other line asks for none of them.
+// of ticks; or the four-motor card, asked for by the first line alone. Any other line asks for none of them. A channel and its contacts
+// are the two numbers that urqolina_reading takes.
 #[derive(Clone, Copy)]
 pub enum Job {
     Send,

@@ -21,6 +21,7 @@ pub fn add_counts(nets: &mut [u32; 16], pulses: &[u8; 64])
     requires { NetsWithin most_net nets.old × CountsWithin most_count pulses.now }
     ensures { nets.new ≡ nets_after nets.old pulses.now }
 {
+    // By number: a channel's count stands at four times it.
     for c in 0..16 {
         nets[c] = added(nets[c], place_of(u32::read_at(pulses, 4 * c)));
     }

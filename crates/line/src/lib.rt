@@ -96,7 +96,9 @@ pub enum AfterX {
     XQuestion,
 }
 
-// Starts. A direction is 1 for CW (P) and 2 for CCW (N).
+// Starts. A direction is 1 for CW (P) and 2 for CCW (N). What these enums carry as a byte (a direction, a speed's number, an end flag, a
+// byte of the head) is no enum of its own: `course_of`, `with_setting`, `value_in_range` and others of the library's functions take every
+// byte there, and say what it means. That an order was made by a line is `order_made` beside it, and not a type, for the same reason.
 #[derive(Clone, Copy)]
 pub enum Start {
     // ABSx±d

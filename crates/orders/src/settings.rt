@@ -1,4 +1,5 @@
-// What a start or a setting means for the motor that it names. Each takes a value in its range, as an accepted order has.
+// What a start or a setting means for the motor that it names. Each takes a value in its range, as an accepted order has; that it is in range
+// is asked beside it, since a Start and a Setting hold what was written, in range or not.
 
 ghost use Rattle.std.specs.Prelude.{◌≡◌, true, ◌<◌};
 ghost use Rattle.motor.specs.Sound.{is_speed};

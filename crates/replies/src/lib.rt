@@ -22,7 +22,7 @@ use table::head::{Head, is_paused};
 use text::decimal::{write_decimal, write_signed};
 use text::hex::{write_hex, write_hex_word};
 
-// The text of a verdict where all-reply is on, else nothing.
+// The text of a verdict where all-reply is on, else nothing. All-reply and the mode come as the bytes of the head.
 pub fn write_echo(out: &mut [u8], all: u8, v: Verdict) -> usize
     requires { 32 ≤ length out.old }
     ensures wrote { Wrote out.old out.new (echo all v) result }

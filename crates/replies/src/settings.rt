@@ -8,7 +8,7 @@ ghost use Rattle.replies.specs.Replies.{selected_text, switches_text, motor_text
 use record::Setup;
 use text::quoted::write_text;
 
-// The name of the selected speed.
+// The name of the selected speed. Any byte is taken: what is neither 0 nor 1 is named as `selected_text` has it.
 pub fn write_selected(out: &mut [u8], k: u8) -> usize
     requires { 32 ≤ length out.old }
     ensures { Wrote out.old out.new (selected_text k) result }

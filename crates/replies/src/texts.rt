@@ -10,7 +10,8 @@ use drive::Verdict;
 use drive::numbers::number_of;
 use text::quoted::write_text;
 
-// The text of a verdict, if it has one: by its number, so that a cause of a refusal needs no arm of its own.
+// The text of a verdict, if it has one: by its number, so that a cause of a refusal needs no arm of its own. The buffer of a reply is a
+// slice with 32 bytes at least, here and in the crate's other writers: a host may lend more, and an array of 32 would be less.
 pub fn write_verdict(out: &mut [u8], v: Verdict) -> usize
     requires { 32 ≤ length out.old }
     ensures { Wrote out.old out.new (text_of (number_of v)) result }

@@ -62,7 +62,7 @@ pub struct Pair {
     pub speed: f64,
 }
 
-// The first field of a step: a channel, or a dwell with its double and its number.
+// The first field of a step: a channel, or a dwell with its double and its number. The channel is the byte of a list.
 #[derive(Clone, Copy)]
 pub enum Opening {
     Channel(u8),

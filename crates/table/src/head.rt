@@ -12,7 +12,7 @@ use digits::sets::count;
 use digits::words::Word;
 
 // The mode: 0 local, 1 remote. All-reply: 0 off, 1 on. The error flags: 0 to 15. Pause: 0 off, 1 on. The busy set: bit c for channel c. The
-// card: 0 sixteen motors, 1 four.
+// card: 0 sixteen motors, 1 four. A field has its byte as it stands, since a table that is not sound has a head too (`head_of`).
 #[derive(Clone, Copy)]
 pub struct Head {
     pub mode: u8,
@@ -38,7 +38,8 @@ pub fn read_head(t: &Table) -> Head
     }
 }
 
-// Writes the busy set alone.
+// Writes the busy set alone: its bytes as `set_bytes` has them. `put_at` promises those of `word_bytes`, and a law that both are the same
+// would be more than this is.
 pub fn write_busy(t: &mut Table, set: u16)
     ensures { t.new ≡ put t.old 4 (set_bytes set) }
 {

@@ -50,7 +50,7 @@ fn record(t: &Table, c: u8) -> &[u8; 64]
     t[start..end].as_array().unwrap()
 }
 
-// Lends the bytes of a record to what changes them.
+// Lends the bytes of a record to what changes them. After `as_mut_array().unwrap()` no clause says what the slice ends as: hence the else.
 fn change_bytes<F: FnOnce(&mut [u8; 64])>(b: &mut [u8], f: F)
     requires size { length b.old ≡ 64 }
     requires callable { F.IsAlwaysCallable f }

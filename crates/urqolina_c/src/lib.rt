@@ -1,5 +1,5 @@
 // The four calls for a C host. Each hands what it is lent to the library's function of its name and promises the same; what those
-// do is said in the crate urqolina, and what the host sees to in include/urqolina.h.
+// do is said in the crate urqolina, and what the host sees to in include/urqolina.h. The C interface has them by these names.
 
 #![tactic(auto)]
 
