@@ -139,7 +139,7 @@ for path, line, kind, before, after in blocks:
     assert not re.search(r'--|//', before[:head]) and not re.match(r'(pub |ghost )*(use|mod) ', before), where
     assert not re.match(r'(abbrev |unfoldable |pub )*\S+ : .*→', before), where
     assert 'Computing' not in path, where
-assert len(kinds) > 8, 'few kinds: %s' % kinds
+assert len(kinds) > 7, 'few kinds: %s' % kinds
 END
 python3 "$room/look.py" "$room/out" "$tree" 2>"$room/err" || fail "of all changes: $(tail -n 1 "$room/err")"
 [ ! -s "$calls" ] || fail "to list changes it calls rt: $(cat "$calls")"

@@ -84,8 +84,26 @@ def term_comparison(place):
     return in_scope(place, TESTS.get(place.text, ()))
 
 
+def is_bar(place):
+    """Whether a | ends the parameters of a closure, or stands between two patterns: of an arm, or of `matches!`."""
+    source, before, after = place.source, place.at - 1, place.at + 1
+    while source.tokens[before].sort == 'name' or source.text_at(before) in (',', ':', '&'):
+        before -= 1
+    if source.text_at(before) == '|' and not Place(place.world, source, before, {}, {}, place.owner).follows_operand():
+        return True
+    while source.tokens[after].sort in ('number', 'quoted', 'name') and source.text_at(after) != 'if' or (
+            source.text_at(after) in ('::', '|', '..', '@', '(', '[') or source.text_at(after) == '{' and source.text_at(after - 1)[:1].isupper()):
+        after = source.after(after)
+    if source.text_at(after) == ')':
+        opening = source.partner.get(after, after)
+        return source.text_at(opening - 1) == '!' and source.text_at(opening - 2) == 'matches'
+    return source.text_at(after) in ('=>', 'if')
+
+
 def code_connective(place):
-    return list(CONNECTIVES.get(place.text, ())) if place.follows_operand() else []
+    if not place.follows_operand() or place.text == '|' and is_bar(place):
+        return []
+    return list(CONNECTIVES.get(place.text, ()))
 
 
 def term_connective(place):
@@ -94,7 +112,8 @@ def term_connective(place):
 
 def code_truth(place):
     if place.text == '!' and place.token.sort == 'symbol':
-        return ['']
+        # what follows a name is a macro's
+        return [] if place.follows_operand() else ['']
     return {'true': ['false'], 'false': ['true']}.get(place.text, [])
 
 

@@ -180,9 +180,19 @@ def variants(source, opening):
     return found
 
 
+def past_types(source, at):
+    """Where a function's own types, which stand between < and > and may have brackets, have ended; the place itself if it has none."""
+    depth = source.text_at(at).count('<')
+    while depth and at < len(source.tokens):
+        at += 1
+        text = source.text_at(at)
+        depth += len(text) if text in ('<', '<<') else -len(text) if text in ('>', '>>') else 0
+    return at
+
+
 def function(source, at):
     """The function whose name stands at a place."""
-    opening = source.find(at, '(')
+    opening = source.find(past_types(source, at + 1), '(')
     arrow = source.after(opening)
     after = source.find(arrow, *CLAUSES, '{', ';')
     result = source.join(arrow + 1, after) if source.text_at(arrow) == '->' else ''
