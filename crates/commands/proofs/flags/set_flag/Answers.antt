@@ -2,9 +2,6 @@
 use Rattle.commands.specs.Changing.{flagged}
 use Rattle.commands.proofs.flags.set_flag.Goals as goal
 
-pub with_bit-flags-requires : goal.with_bit-flags-requires
-with_bit-flags-requires c = (c.flag_bit.ensures.1, rw c.read_head-h.ensures c.requires)
-
 pub returns : goal.returns
 unfolding flagged
 returns c = rw (c.write_head.ensures, c.with_bit-flags.ensures, c.flag_bit.ensures.0, c.number_of.ensures, c.read_head-h.ensures)

@@ -5,9 +5,6 @@ use Rattle.commands.proofs.FlagLaws.{set_within}
 use Rattle.digits.specs.Words.{is_set, without_bit}
 use Rattle.commands.proofs.flags.without_bit.Goals as goal
 
-pub overflow_sub-result : goal.overflow_sub-result
-overflow_sub-result c = let set : is_set c.args.k c.args.n ≡ true = sym c.is_set.ensures ∙ c.if-is_set.true in rw c.power.ensures.0 (set_within _ _ set)
-
 pub returns-then-is_set : goal.returns-then-is_set
 unfolding without_bit
 returns-then-is_set c = rw (← c.is_set.ensures, c.if-is_set.true, c.power.ensures.0)

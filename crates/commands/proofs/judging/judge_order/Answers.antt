@@ -8,10 +8,6 @@ unfolding judge judge_where
 returns-then-needs_remote-head c =
     rw (← c.read_head-head.ensures, ← c.has_form.ensures, c.if-not-has_form.false, ← c.needs_remote.ensures, c.if-needs_remote-head.true)
 
-pub judge_channel-requires : goal.judge_channel-requires
-judge_channel-requires c =
-    (c.requires, sym c.value_in_range.ensures ∙ c.if-value_in_range.true)
-
 pub returns-then-value_in_range : goal.returns-then-value_in_range
 unfolding judge judge_where
 returns-then-value_in_range c =

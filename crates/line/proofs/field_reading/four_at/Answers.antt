@@ -9,9 +9,3 @@ four_digits-requires c = four_there c.args.s.now c.args.at (omega (arith, c.digi
 
 pub overflow_add-result : goal.overflow_add-result
 overflow_add-result c = omega (arith, four_there c.args.s.now c.args.at (omega (arith, c.digits_at.ensures)))
-
-pub returns-then-digits_at-ge4 : goal.returns-then-digits_at-ge4
-returns-then-digits_at-ge4 c = rw (← c.digits_at.ensures, le-leb _ _ c.if-digits_at-ge4.true, c.four_digits.ensures)
-
-pub returns-else-digits_at-ge4 : goal.returns-else-digits_at-ge4
-returns-else-digits_at-ge4 c = rw (← c.digits_at.ensures, lt-leb _ _ c.if-digits_at-ge4.false)

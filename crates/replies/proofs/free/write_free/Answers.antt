@@ -6,9 +6,6 @@ use Rattle.digits.proofs.PutLaws.{stores_put}
 use Rattle.replies.specs.Replies.{free_text}
 use Rattle.replies.proofs.free.write_free.Goals as goal
 
-pub bounds-out-1 : goal.bounds-out-1
-bounds-out-1 c = simp length-set (omega arith)
-
 pub returns : goal.returns
 unfolding free_text
 returns c =

@@ -13,20 +13,11 @@ overflow_add-out c = omega (arith, setup_small c.args.s c.requires.s_value)
 pub overflow_add-out-2 : goal.overflow_add-out-2
 overflow_add-out-2 c = omega (arith, setup_small c.args.s c.requires.s_value)
 
-pub bounds-out-1 : goal.bounds-out-1
-bounds-out-1 c = simp length-set (omega arith)
-
 pub overflow_add-out-3 : goal.overflow_add-out-3
 overflow_add-out-3 c = omega (arith, setup_small c.args.s c.requires.s_value)
 
-pub bounds-out-2 : goal.bounds-out-2
-bounds-out-2 c = simp length-set (omega arith)
-
 pub overflow_add-out-4 : goal.overflow_add-out-4
 overflow_add-out-4 c = omega (arith, setup_small c.args.s c.requires.s_value)
-
-pub bounds-out-3 : goal.bounds-out-3
-bounds-out-3 c = simp length-set (omega arith)
 
 pub returns : goal.returns
 unfolding motor_text

@@ -4,9 +4,6 @@ use Rattle.std.proofs.Common.{arith, sym, ◌∙◌}
 use Rattle.text.proofs.TextLaws.{digits_more, digits_none, digits_past}
 use Rattle.text.proofs.decimal.digits_at.Goals as goal
 
-pub loop-i-init : goal.loop-i-init
-loop-i-init c = (omega arith, refl)
-
 pub loop-i-preserved : goal.loop-i-preserved
 loop-i-preserved c =
     (omega (arith, digits_more c.args.s.now c.loop-i.i (omega arith) (sym c.is_digit.ensures ∙ c.if-not-is_digit.false)), refl)

@@ -1,6 +1,5 @@
 -- `text::decimal::number_at` meets its contract. Assumes nothing.
 use Rattle.std.proofs.Common.{arith, ◌≡◌, ◌-◌, drop, refl, sym, ◌∙◌, true}
-use native.Mathlib.Nat.{pow-le-pow_right}
 use lib.ListN.{get_or}
 use Rattle.text.specs.Text.{is_digit, value_from}
 use Rattle.text.proofs.TextLaws.{digits_more, digits_none, digits_past, worth_more, number_counted, number_long}
@@ -25,16 +24,6 @@ returns-then-i-at-eq10 c =
     let l = c.loop-i in
     let s = c.args.s.now in
     number_long (drop c.args.at s) (omega (arith, digits_more s l.i (omega arith) (sym c.is_digit.ensures ∙ c.if-not-is_digit.false)))
-
-pub overflow_mul-value : goal.overflow_mul-value
-overflow_mul-value c =
-    let l = c.loop-i in
-    omega (arith, l.invariant.3.0, pow-le-pow_right {n = 10} (omega arith) {i = l.i - c.args.at} {j = 9} (omega arith))
-
-pub overflow_add-value : goal.overflow_add-value
-overflow_add-value c =
-    let l = c.loop-i in
-    omega (arith, l.invariant.3.0, pow-le-pow_right {n = 10} (omega arith) {i = l.i - c.args.at} {j = 9} (omega arith))
 
 pub loop-i-preserved : goal.loop-i-preserved
 loop-i-preserved c =
