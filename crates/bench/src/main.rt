@@ -24,7 +24,7 @@ struct Bench<R, W> {
 }
 
 impl<R: Read, W: Write> Bench<R, W> {
-    // Prints what some bytes of the input print, as far as the output takes it.
+    // Prints what some bytes of the input print, as far as the output takes it: a run at a time, while any are left.
     fn print_bytes(&mut self, bytes: &[u8]) -> io::Result<()> {
         let mut out = [0; 65536];
         let mut left = bytes;

@@ -12,7 +12,7 @@ use drive::numbers::{flag_bit, number_of};
 use table::Table;
 use table::head::{Head, read_head, write_head};
 
-// The number whose only bit is bit k. `k ≤ 3` is asked by three functions here that call each other; a type would be made for them alone.
+// The number whose only bit is bit k. `k ≤ 3` is asked by this and by the two that call it; a type would be made for them alone.
 fn power(k: u8) -> u8
     requires { k ≤ 3 }
     ensures { (result ≡ 2 ^ k) × (result ≤ 8) }

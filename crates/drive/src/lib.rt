@@ -27,22 +27,22 @@ pub enum Course {
     Along(u8),
 }
 
-// What refuses a call. Each cause has its own name here, in the order of the numbers, which specs/Numbers.antt gives them.
+// What refuses a call. Each cause has its own name here, with the number that is handed back for it.
 #[derive(Clone, Copy)]
 pub enum Refusal {
-    NoForm,
-    Busy,
-    OutOfRange,
-    WrongSize,
-    NotSound,
-    LocalMode,
-    Disabled,
-    Unread,
-    SwitchAhead,
-    AtLimit,
-    AtRangeEnd,
-    NotDriving,
-    Full,
+    NoForm = 1,
+    Busy = 2,
+    OutOfRange = 3,
+    WrongSize = 5,
+    NotSound = 6,
+    LocalMode = 7,
+    Disabled = 8,
+    Unread = 9,
+    SwitchAhead = 10,
+    AtLimit = 11,
+    AtRangeEnd = 12,
+    NotDriving = 13,
+    Full = 14,
 }
 
 // How a call is judged: it is done, or refused by a cause.

@@ -3,7 +3,7 @@
 ghost use Rattle.std.specs.Prelude.{◌≡◌, ◌≤◌};
 ghost use Rattle.drive.specs.Numbers.{number_of, flag_bit};
 
-use crate::{Refusal, Verdict};
+use crate::Verdict;
 
 // It is no `From`: an impl stands with one of its types, and a Verdict is the library's Result.
 #[tactic(auto, unfolding(crate::specs::Numbers::number_of))]
@@ -12,19 +12,7 @@ pub fn number_of(v: Verdict) -> u32
 {
     match v {
         Ok(()) => 0,
-        Err(Refusal::NoForm) => 1,
-        Err(Refusal::Busy) => 2,
-        Err(Refusal::OutOfRange) => 3,
-        Err(Refusal::WrongSize) => 5,
-        Err(Refusal::NotSound) => 6,
-        Err(Refusal::LocalMode) => 7,
-        Err(Refusal::Disabled) => 8,
-        Err(Refusal::Unread) => 9,
-        Err(Refusal::SwitchAhead) => 10,
-        Err(Refusal::AtLimit) => 11,
-        Err(Refusal::AtRangeEnd) => 12,
-        Err(Refusal::NotDriving) => 13,
-        Err(Refusal::Full) => 14,
+        Err(cause) => cause as u32,
     }
 }
 

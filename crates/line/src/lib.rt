@@ -97,8 +97,8 @@ pub enum AfterX {
 }
 
 // Starts. A direction is 1 for CW (P) and 2 for CCW (N). What these enums carry as a byte (a direction, a speed's number, an end flag, a
-// byte of the head) is no enum of its own: `course_of`, `with_setting`, `value_in_range` and others of the library's functions take every
-// byte there, and say what it means. That an order was made by a line is `order_made` beside it, and not a type, for the same reason.
+// byte of the head) is no enum of its own: `course_of`, `with_setting`, `value_in_range`, `needs_remote` and `has_form` take every byte there,
+// and say what it means. That an order was made by a line is `order_made` beside it, and not a type, since they take any other order too.
 #[derive(Clone, Copy)]
 pub enum Start {
     // ABSx±d

@@ -38,7 +38,7 @@ fn signed_in_range(w: Written) -> bool
     w.digits <= 2147483647
 }
 
-// Whether a number as it was written is a speed.
+// Whether a number as it was written is a speed: it may have ten digits, more than the u32 that motor's `is_speed` is given.
 fn speed_in_range(v: u64) -> bool
     ensures { result ≡ is_speed v }
 {

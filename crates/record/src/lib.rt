@@ -308,33 +308,27 @@ fn put_rest(b: &mut [u8; 64], m: Motor)
     b[45..].fill(0);
 }
 
-// Writes a motor's record: every one of its 64 bytes. This and what follows are lent a slice, and no array: of a part of a table that is
-// lent on as an array, the proof of `write_record` (crate table) learns nothing of what is written back.
-pub fn write_motor(b: &mut [u8], m: Motor)
-    requires { length b.old ≡ 64 }
+// Writes a motor's record: every one of its 64 bytes.
+pub fn write_motor(b: &mut [u8; 64], m: Motor)
     ensures { b.new ≡ record_of m }
 {
-    let record = b.as_mut_array().unwrap();
-    put_settings(record, m);
-    m.ended.put_at(record, 31);
-    put_drive(record, m.drive);
-    put_rest(record, m);
+    put_settings(b, m);
+    m.ended.put_at(b, 31);
+    put_drive(b, m.drive);
+    put_rest(b, m);
 }
 
 // Writes the end flags and the drive alone, bytes 31 to 43: all that a stop changes.
-pub fn write_drive(b: &mut [u8], ended: u8, d: Drive)
-    requires { length b.old ≡ 64 }
+pub fn write_drive(b: &mut [u8; 64], ended: u8, d: Drive)
     ensures { b.new ≡ put b.old 31 (flags_and_drive ended d) }
 {
-    let record = b.as_mut_array().unwrap();
-    ended.put_at(record, 31);
-    put_drive(record, d);
+    ended.put_at(b, 31);
+    put_drive(b, d);
 }
 
 // Writes what a tick changes in the record of a driving motor, given the motor after it: the position, and the fraction or, if the
 // drive has ended, the end flags and no drive.
-pub fn write_progress(b: &mut [u8], m: Motor)
-    requires { length b.old ≡ 64 }
+pub fn write_progress(b: &mut [u8; 64], m: Motor)
     ensures { b.new ≡ progressed b.old m }
 {
     put_place(b, 0, m.place);

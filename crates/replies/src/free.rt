@@ -12,7 +12,7 @@ use table::head::Head;
 fn left_of_four(busy: u32) -> u8
     ensures { (result ≡ 4 - busy) × (result ≤ 4) }
 {
-    if busy < 4 { (4 - busy) as u8 } else { 0 }
+    4u32.saturating_sub(busy) as u8
 }
 
 // The mode, and how many motors more may be started.

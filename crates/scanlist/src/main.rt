@@ -14,7 +14,8 @@ ghost use Rattle.std.specs.Prelude.{◌≤◌, length};
 use lists::listing::write_list;
 use std::io::{Read, Write};
 
-// Reads until the buffer is full, the input ends or a read fails, and answers the bytes that were read.
+// Reads until the buffer is full, the input ends or a read fails, and answers the bytes that were read. `left` shrinks with each read, and
+// ends the loop.
 fn read_full<'a, R: Read>(from: &mut R, room: &'a mut [u8]) -> &'a [u8]
     ensures { length result.now ≤ length room.old }
 {

@@ -28,7 +28,7 @@ use record::{
 };
 
 // The bytes of a table. It is no struct that keeps them sound: between the write of a record and its mark they are not. A channel of it is
-// a number with `c ≤ 15` beside: public functions take it so, and a type of its own would ask more of their callers.
+// a number with `c ≤ 15` beside: an Order carries any byte there, and a type of its own would be made at each match of one.
 pub type Table = [u8; 1088];
 
 // Where the record of a channel starts.
@@ -50,7 +50,8 @@ fn record(t: &Table, c: u8) -> &[u8; 64]
     t[start..end].as_array().unwrap()
 }
 
-// Lends the bytes of a record to what changes them. After `as_mut_array().unwrap()` no clause says what the slice ends as: hence the else.
+// Lends the bytes of a record to what changes them. It is an else, and no `unwrap`, from which the proof of a closure's call learns nothing
+// of what the slice ends as.
 fn change_bytes<F: FnOnce(&mut [u8; 64])>(b: &mut [u8], f: F)
     requires size { length b.old ≡ 64 }
     requires callable { F.IsAlwaysCallable f }

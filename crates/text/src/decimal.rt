@@ -33,7 +33,8 @@ fn digit_byte(n: u32) -> u8
     b'0' + (n % 10) as u8
 }
 
-// How many digits stand from `at` on; none where `at` lies past the end.
+// How many digits stand from `at` on; none where `at` lies past the end. It goes by place, here and in `number_at`, since a part of the text
+// can't be lent from a place past its end.
 pub fn digits_at(s: &[u8], at: usize) -> usize
     ensures { result ≡ digits_at_front (drop at s.now) }
 {

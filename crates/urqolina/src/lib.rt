@@ -19,7 +19,7 @@ use table::{Table, change_motor, make_fresh, sound_table};
 use ticking::tick_all;
 
 // The numbers that need no line, as the C interface has them: done, a wrong size or number, and a table that is not sound. Each call
-// refuses by itself: what a slice ends as that is lent on in a `Result` no clause says.
+// refuses for itself: of a slice that is lent on inside a `Result` no clause says what it ends as.
 const DONE: u32 = 0;
 
 const WRONG_SIZE: u32 = 5;

@@ -11,6 +11,5 @@ pub returns : goal.returns
 unfolding joined word_bytes
 returns c =
     let a = c.args in
-    let lent = (rw c.unwrap-record.ensures at c.as_mut_array.ensures.cases).same in
-    rw (c.put_drive.ensures, c.put_at.ensures, lent)
+    rw (c.put_drive.ensures, c.put_at.ensures)
     (lay_put ((a.ended ∷ []) ∷ drive_bytes a.d ∷ []) a.b.now 31 (omega arith))

@@ -12,7 +12,6 @@ pub returns : goal.returns
 unfolding joined word_bytes setting_bytes record_of
 returns c =
     let a = c.args in
-    let lent = (rw c.unwrap-record.ensures at c.as_mut_array.ensures.cases).same in
-    rw (c.put_rest.ensures, c.put_drive.ensures, c.put_at.ensures, c.put_settings.ensures, lent)
+    rw (c.put_rest.ensures, c.put_drive.ensures, c.put_at.ensures, c.put_settings.ensures)
     (lay_put (setting_bytes a.m ∷ (a.m.ended ∷ []) ∷ drive_bytes a.m.drive ∷ rest_bytes a.m ∷ []) a.b.now 0 (omega arith)
     ∙ put_whole a.b.now (record_of a.m) (omega arith))
