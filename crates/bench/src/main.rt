@@ -36,7 +36,7 @@ impl<R: Read, W: Write> Bench<R, W> {
         Ok(())
     }
 
-    // Reads once, prints what came, and answers how many bytes that were: none at the end.
+    // Reads once, prints what came, and answers how many bytes came: none at the end.
     fn read_some(&mut self) -> io::Result<usize> {
         let mut input = [0; 65536];
         let n = self.from.read(&mut input)?;

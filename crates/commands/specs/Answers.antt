@@ -1,5 +1,5 @@
 -- Document 01, "Numbers handed back": what is answered, on the table after the command.
-use Rattle.std.specs.Prelude.{Result, Ok, Err}
+use Rattle.std.specs.Prelude.{Ok}
 use Rattle.std.specs.Prelude.{ℕ, List}
 use Rattle.drive.specs.Numbers.{Verdict}
 use Rattle.line.specs.declared.Order.{Order}

@@ -1,5 +1,5 @@
 -- Document 01, "Numbers handed back": which verdict an order gets on a sound table.
-use Rattle.std.specs.Prelude.{Result, Ok, Err}
+use Rattle.std.specs.Prelude.{Ok, Err}
 use Rattle.std.specs.Prelude.{ℕ, List, Bool, false, ◌&&◌, not, cond, eqb}
 use Rattle.drive.specs.Numbers.{Verdict}
 use Rattle.drive.specs.declared.Refusal.TheVariants.{Busy, OutOfRange, LocalMode}

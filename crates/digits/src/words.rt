@@ -39,7 +39,7 @@ impl Word for u8 {
     }
 }
 
-// The wider ones differ in the array alone, whose length is no const parameter here: `to_le_bytes` is of each type by itself.
+// The wider ones differ in the array's length alone; `to_le_bytes` belongs to each type, so one body can't serve all three.
 impl Word for u16 {
     ghost size = { 2 };
 

@@ -1,6 +1,6 @@
 -- What a line does on a sound table, a function from the table, what the line is and the reply buffer to all that is left: the
 -- result, the table and the reply buffer. The inputs are any lists, sound or not.
-use Rattle.std.specs.Prelude.{Result, Ok, Err}
+use Rattle.std.specs.Prelude.{Ok, Err}
 use Rattle.std.specs.Prelude.{Option, Some, None}
 use Rattle.std.specs.Prelude.{ℕ, ◌+◌, ◌*◌, List, Bool, cond, length, eqb}
 use Rattle.digits.specs.Bytes.{put}

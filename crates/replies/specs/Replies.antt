@@ -1,5 +1,4 @@
 -- Document 01, "Numbers handed back": what is answered.
-use Rattle.std.specs.Prelude.{Result, Ok, Err}
 use Rattle.std.specs.Prelude.{ℕ, ◌-◌, List, [], ◌∷◌, cond, eqb}
 use Rattle.digits.specs.Words.{bit, is_set, bits_set}
 use Rattle.text.specs.Text.{bytes, digit_byte, decimal, hex_byte, hex_word}

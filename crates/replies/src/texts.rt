@@ -21,7 +21,8 @@ pub fn write_verdict(out: &mut [u8], v: Verdict) -> usize
         1 => write_text(out, b"COMMAND ERROR"),
         2 => write_text(out, b"MCC06 BUSY ERROR"),
         3 => write_text(out, b"PARAMETER ERROR"),
-        5 | 6 => 0,
+        5 => 0,
+        6 => 0,
         _ => write_text(out, b"NG"),
     }
 }

@@ -1,6 +1,6 @@
 -- How far the counts of a tick go, for every table: on a sound one no motor gives more than 5,000 pulses, and on any other the
 -- buffer stays as it was. Assumes nothing.
-use Rattle.std.specs.Prelude.{Result, Ok, Err}
+use Rattle.std.specs.Prelude.{Ok, Err}
 use mathlib.Core.Path.{◌≡◌, refl}
 use mathlib.Core.Bool.{Bool, true, false, ◌&&◌, cond}
 use mathlib.Core.List.{List}

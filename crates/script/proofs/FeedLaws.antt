@@ -4,13 +4,14 @@ use Prim.Native.Nat.{ℕ, ◌+◌, ◌-◌, ◌<◌, ◌≤◌}
 use mathlib.Core.Path.{◌≡◌, refl}
 use mathlib.Core.List.{List, [], ◌∷◌, ◌++◌, append_assoc}
 use mathlib.Core.Bool.{Bool, true, false, cond}
+use native.Mathlib.Nat.{zero-add}
 use native.Mathlib.Numerals.{add-one}
 use native.Mathlib.Omega.{arith}
 use lib.Dec.{eqb}
 use lib.ListN.{length, take, drop, get_or, length-append}
 use lib.Seq.{drop-cons, take_at, length-take-le}
 use Rattle.digits.specs.Bytes.{put}
-use Rattle.digits.proofs.PutLaws.{put_part, put_rest}
+use Rattle.digits.proofs.PutLaws.{put_after, put_part, put_rest}
 use Rattle.text.specs.Text.{Wrote}
 use Rattle.jobs.specs.Holding.{held_size}
 use Rattle.jobs.proofs.HoldLaws.{kept_few}
@@ -71,3 +72,7 @@ pub end_some : (first : Bool) (t s : List ℕ) → 0 < length s → end_read fir
 unfolding end_read
 end_some first t [] h = absurd (omega arith)
 end_some first t (b ∷ s) h = refl
+
+-- What is put after what stands at the front of a buffer stands there with it.
+pub put_onward : (o₀ o w x : List ℕ) (k : ℕ) → o ≡ put o₀ 0 w → length w ≡ k → k + length x ≤ length o₀ → put o k x ≡ put o₀ 0 (w ++ x)
+put_onward o₀ o w x k e m h = rw (e, ← m, ← put_after o₀ w x 0 (omega arith), zero-add)

@@ -84,7 +84,7 @@ fn write_letters(out: &mut [u8], k: u8, x: u8, m: Motor)
     out[2] = going_letter(m);
 }
 
-// V and HH: bytes 3 to 5.
+// V and HH: bytes 3 to 5, each digit in its place as in the rest of the status.
 fn write_flags(out: &mut [u8], m: Motor)
     requires { 32 ≤ length out.old }
     ensures { out.new ≡ put out.old 3 (hex_digit (status_v m) ∷ hex_byte (status_hh m)) }

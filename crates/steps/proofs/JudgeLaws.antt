@@ -1,7 +1,7 @@
 -- What a double is judged to be, by what the code tells of it. Assumes nothing.
-use mathlib.Core.Path.{◌≡◌, refl}
-use mathlib.Core.Bool.{Bool, true, false, ◌&&◌, not, cond}
-use Prim.Native.Nat.{ℕ, ◌<◌, min}
+use mathlib.Core.Path.{◌≡◌, refl, sym}
+use mathlib.Core.Bool.{Bool, true, false, ◌&&◌, not, cond, true≢false}
+use Prim.Native.Nat.{ℕ, ◌≤◌, ◌<◌, min}
 use native.Mathlib.Omega.{arith}
 use lib.Dec.{leb}
 use lib.Ieee.{Float}
@@ -61,3 +61,8 @@ numbered most x h = go (is_whole x)
         ≡ number_by most (cond t (whole (is_minus x) (min (size_of x) largest)) None)
     go true = sized (size_of x) (leb (size_of x) most) refl
     go false = refl
+
+-- a size that is taken is in its range
+pub in_range_law : (p : Bool) (n most : ℕ) → (p && leb n most) ≡ true → n ≤ most
+in_range_law true n most e = leb-true n most e
+in_range_law false n most e = absurd (true≢false (sym e))

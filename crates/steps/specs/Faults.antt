@@ -1,6 +1,7 @@
 -- 02 §8: "the first fault in the list counts, and in one field the lower number", said of the fields of a step one by one: what refuses
 -- each by itself, whatever the others are, and the first field that is refused. Nothing else goes by this; a law says that the steps do.
 use Rattle.std.specs.Prelude.{ℕ, ◌+◌, List, [], ◌∷◌, cond, leb, eqb, Option, None, Some, option_map}
+use Rattle.std.specs.Option.{option_or}
 use Rattle.std.specs.Result.{result_err}
 use Rattle.steps.specs.declared.SetPoint.TheVariants.{Dwell}
 use Rattle.steps.specs.declared.Cause.{Cause}
@@ -11,14 +12,9 @@ use Rattle.steps.specs.Fields.{tag_at, channel_at, frame_fault, double_at}
 use Rattle.steps.specs.Judging.{judged_point, judged_speed}
 use Rattle.steps.specs.Steps.{aim_of}
 
--- the first of two that there is
-abbrev pub or_else : {A : Type 0} → Option A → Option A → Option A
-or_else (Some a) b = Some a
-or_else None b = b
-
 -- "in one field the lower number": what is wrong with the frame of a field counts before what is wrong with its value
 abbrev pub lower : Option Cause → Option Cause → Option Cause
-lower frame value = or_else frame value
+lower frame value = option_or frame value
 
 -- the field of a channel or a dwell
 unfoldable pub opening_cause : List ℕ → ℕ → Option Cause
@@ -46,4 +42,4 @@ faults_of s at =
 -- "the first fault in the list counts"
 unfoldable pub first_fault : List (Option Fault) → Option Fault
 first_fault [] = None
-first_fault (f ∷ fs) = or_else f (first_fault fs)
+first_fault (f ∷ fs) = option_or f (first_fault fs)

@@ -46,7 +46,7 @@ impl<'a> Field<'a> {
         }
     }
 
-    // Whether the list ends in its place.
+    // Whether the list ends before it.
     pub(crate) fn is_past(self) -> bool
         ensures { result ≡ ended self.entry.list.now self.entry.at }
     {

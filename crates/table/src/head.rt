@@ -38,13 +38,11 @@ pub fn read_head(t: &Table) -> Head
     }
 }
 
-// Writes the busy set alone: its bytes as `set_bytes` has them. `put_at` promises those of `word_bytes`, and a law that both are the same
-// would be more than this is.
+// Writes the busy set alone.
 pub fn write_busy(t: &mut Table, set: u16)
     ensures { t.new ≡ put t.old 4 (set_bytes set) }
 {
-    t[4] = (set % 256) as u8;
-    t[5] = (set / 256) as u8;
+    set.put_at(t, 4);
 }
 
 // Writes the fields of one byte.

@@ -1,6 +1,6 @@
 -- The four calls, each a function from all its inputs to all that it leaves: the result, the table, and the reply or the pulse
 -- buffer. The inputs are any lists and any numbers. What a line does on a sound table is `taken` of obeying/specs/Taking.antt.
-use Rattle.std.specs.Prelude.{Result, Ok, Err}
+use Rattle.std.specs.Prelude.{Ok, Err}
 use Rattle.std.specs.Prelude.{ℕ, Bool, ◌&&◌, cond, length, eqb, leb}
 use mathlib.Core.List.{List, flat_map}
 use Rattle.digits.specs.Words.{word_bytes}

@@ -1,5 +1,5 @@
 -- `obeying::take_order` meets its contract. Assumes nothing.
-use mathlib.Core.Path.{◌≡◌, refl, sym, ap, ◌∙◌}
+use mathlib.Core.Path.{◌≡◌, sym, ◌∙◌}
 use mathlib.Core.Bool.{false}
 use lib.Dec.{eqb}
 use Rattle.obeying.proofs.NumberLaws.{judged_value, formed_judged, formed_obeyed, formed_refused, cause_numbered}
@@ -9,17 +9,11 @@ use Rattle.table.specs.Layout.{head_of}
 use Rattle.commands.specs.Judging.{judge}
 use Rattle.obeying.proofs.take_order.Goals as goal
 
-pub judge_order-requires : goal.judge_order-requires
-judge_order-requires c = c.requires.2
-
 pub obey-requires : goal.obey-requires
 unfolding number_of
 obey-requires c =
     let none : number_of c.judge_order.result ≡ 0 = rw c.in-Ok.is in
     (c.requires.0, c.requires.1, c.requires.2, judged_value c.args.t.now c.args.o (formed_judged (has_form (head_of c.args.t.now).card c.args.o) (judge c.args.t.now c.args.o) (rw c.judge_order.ensures at none)).1)
-
-pub refuse-requires : goal.refuse-requires
-refuse-requires c = (c.requires.0, c.requires.1)
 
 pub returns-in-Ok : goal.returns-in-Ok
 unfolding number_of

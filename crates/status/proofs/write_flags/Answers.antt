@@ -3,17 +3,10 @@ use mathlib.Core.List.{◌∷◌}
 use mathlib.Core.Path.{◌≡◌}
 use Prim.Native.Nat.{◌/◌, ◌%◌}
 use native.Mathlib.Omega.{arith}
-use lib.ListN.{length-set}
 use Rattle.text.specs.Text.{hex_digit, hex_byte}
 use Rattle.digits.proofs.PutLaws.{stores_put}
 use Rattle.status.specs.Status.{status_v, status_hh}
 use Rattle.status.proofs.write_flags.Goals as goal
-
-pub bounds-out-4 : goal.bounds-out-4
-bounds-out-4 c = simp length-set (omega arith)
-
-pub bounds-out-5 : goal.bounds-out-5
-bounds-out-5 c = simp length-set (omega arith)
 
 pub returns : goal.returns
 unfolding hex_byte

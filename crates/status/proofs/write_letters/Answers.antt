@@ -3,17 +3,10 @@ use mathlib.Core.List.{[], ◌∷◌}
 use mathlib.Core.Path.{◌≡◌}
 use Prim.Native.Nat.{◌%◌}
 use native.Mathlib.Omega.{arith}
-use lib.ListN.{length-set}
 use Rattle.text.specs.Text.{hex_digit}
 use Rattle.digits.proofs.PutLaws.{stores_put}
 use Rattle.status.specs.Status.{mode_letter, going_letter}
 use Rattle.status.proofs.write_letters.Goals as goal
-
-pub bounds-out-1 : goal.bounds-out-1
-bounds-out-1 c = simp length-set (omega arith)
-
-pub bounds-out-2 : goal.bounds-out-2
-bounds-out-2 c = simp length-set (omega arith)
 
 pub returns : goal.returns
 returns c =

@@ -1,8 +1,5 @@
 -- `commands::flags::without_bit` meets its contract. Assumes nothing.
-use mathlib.Core.Path.{◌≡◌, sym, ◌∙◌}
-use mathlib.Core.Bool.{true}
-use Rattle.commands.proofs.FlagLaws.{set_within}
-use Rattle.digits.specs.Words.{is_set, without_bit}
+use Rattle.digits.specs.Words.{without_bit}
 use Rattle.commands.proofs.flags.without_bit.Goals as goal
 
 pub returns-then-is_set : goal.returns-then-is_set

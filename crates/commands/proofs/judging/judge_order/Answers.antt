@@ -1,5 +1,4 @@
 -- `commands::judging::judge_order` meets its contract. Assumes nothing.
-use mathlib.Core.Path.{sym, ◌∙◌}
 use Rattle.commands.specs.Judging.{judge_where, judge}
 use Rattle.commands.proofs.judging.judge_order.Goals as goal
 

@@ -1,6 +1,5 @@
 -- `jobs::reading::wait_of` meets its contract. Assumes nothing.
 use Rattle.std.proofs.Common.{arith, ◌≡◌, Some, sym, ◌∙◌}
-use Rattle.text.specs.Text.{number_at_front}
 use Rattle.text.proofs.TextLaws.{digits_within}
 use Rattle.jobs.proofs.JobLaws.{read_parts, wait_read}
 use Rattle.jobs.proofs.reading.wait_of.Goals as goal

@@ -1,6 +1,5 @@
 -- `line::field_reading::four_at` meets its contract. Assumes nothing.
 use Rattle.std.proofs.Common.{arith}
-use borrow.Author.Tests.{le-leb, lt-leb}
 use Rattle.line.proofs.ReadLaws.{four_there}
 use Rattle.line.proofs.field_reading.four_at.Goals as goal
 

@@ -1,7 +1,6 @@
 -- `replies::free::write_free` meets its contract. Assumes nothing.
 use mathlib.Core.Path.{refl}
 use native.Mathlib.Omega.{arith}
-use lib.ListN.{length-set}
 use Rattle.digits.proofs.PutLaws.{stores_put}
 use Rattle.replies.specs.Replies.{free_text}
 use Rattle.replies.proofs.free.write_free.Goals as goal

@@ -1,7 +1,6 @@
 -- `replies::settings::write_setup` meets its contract. Assumes nothing.
 use mathlib.Core.Path.{refl}
 use native.Mathlib.Omega.{arith}
-use lib.ListN.{length-set}
 use Rattle.digits.proofs.PutLaws.{stores_put}
 use Rattle.replies.specs.Replies.{motor_text}
 use Rattle.replies.proofs.ReplyLaws.{setup_small}

@@ -2,7 +2,6 @@
 use mathlib.Core.Path.{refl}
 use native.Mathlib.Nat.{div-one}
 use native.Mathlib.Omega.{arith}
-use lib.ListN.{length-set}
 use Rattle.digits.proofs.PutLaws.{stores_put}
 use Rattle.replies.specs.Replies.{switches_text}
 use Rattle.replies.proofs.settings.write_switches.Goals as goal

@@ -1,8 +1,11 @@
 -- `table::head::write_busy` meets its contract. Assumes nothing.
 use native.Mathlib.Omega.{arith}
-use Rattle.digits.proofs.PutLaws.{stores_put}
-use Rattle.table.specs.Layout.{set_bytes}
+use Rattle.std.proofs.Common.{◌≡◌, ◌/◌, ◌%◌}
+use Rattle.digits.specs.Words.{word_bytes}
 use Rattle.table.proofs.head.write_busy.Goals as goal
 
 pub returns : goal.returns
-returns c = stores_put (set_bytes c.args.set) c.args.t.now 4 (omega arith)
+unfolding word_bytes
+returns c =
+    let high : c.args.set / 256 % 256 ≡ c.args.set / 256 = omega arith in
+    rw high at c.put_at.ensures

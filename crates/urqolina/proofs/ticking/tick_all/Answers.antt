@@ -40,9 +40,6 @@ tick_channel-requires c =
       ready = (sound, rw c.loop-left.invariant.2 (zero_count t₀ k h));
     }
 
-pub loop-left-smaller : goal.loop-left-smaller
-loop-left-smaller c = omega (arith, channel c.args.t.now c.loop-left.c c.loop-left.left c.requires c.loop-left.invariant.0 c.loop-left.invariant.3 c.loop-left-test.true)
-
 pub loop-left-preserved : goal.loop-left-preserved
 loop-left-preserved c =
     let t₀ = c.args.t.now in

@@ -9,9 +9,6 @@ use Rattle.urqolina.proofs.RestLaws.{idle_table, idle_count}
 use Rattle.urqolina.proofs.ticking.tick_channel.Goals.{else-listed-via-then-listed+else-is_moving_at, else-listed-via-else-listed}
 use Rattle.urqolina.proofs.ticking.tick_channel.Goals as goal
 
-pub drive_channel-requires : goal.drive_channel-requires
-drive_channel-requires c = (c.requires.whole.0, c.requires.whole.1, c.requires.ready.0, sym c.is_moving_at.ensures ∙ c.if-is_moving_at.true)
-
 pub returns-else-listed : goal.returns-else-listed
 returns-else-listed c =
     let t = c.args.t.now in
