@@ -1,5 +1,6 @@
 // A line on a sound table: its order is judged, and then carried out and answered, or refused. What it leaves is one definition,
-// `taken` of specs/Taking.antt.
+// `taken` of specs/Taking.antt. That the table is sound, that the reply has 32 bytes and that a line made the order is asked of each function,
+// for the reasons that the crates table, replies and line give.
 
 #![tactic(auto)]
 

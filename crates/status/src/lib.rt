@@ -1,4 +1,5 @@
-// The status of a channel: six bytes, and then the position, written into the rest of the buffer.
+// The status of a channel: six bytes, and then the position, written into the rest of the buffer, which is that of a reply, of 32 bytes or
+// more.
 
 #![tactic(auto)]
 

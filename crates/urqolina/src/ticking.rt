@@ -1,4 +1,5 @@
-// One tick of all motors that the busy set has.
+// One tick of all motors that the busy set has. What is known of a table (sound, sealed, of a channel's record) stands beside it and in no
+// type, as in the crate commands: between two writes it is not so.
 
 ghost use Rattle.std.specs.Prelude.{◌≡◌, true, ◌*◌, ◌≤◌};
 ghost use Rattle.digits.specs.Bytes.{part, put};
