@@ -2,6 +2,7 @@
 // is asked beside it, since a Start and a Setting hold what was written, in range or not.
 
 ghost use Rattle.std.specs.Prelude.{◌≡◌, true, ◌<◌};
+ghost use Rattle.record.specs.Record.{with_limits};
 ghost use Rattle.motor.specs.Sound.{is_speed};
 ghost use Rattle.orders.specs.Values.{signed_in_range, binary_digits, start_in_range, setting_in_range};
 ghost use Rattle.orders.specs.Settings.{direction_of, place_written, course_of, with_speed, binary, with_setting};
@@ -82,6 +83,16 @@ pub fn speed_written(v: u64) -> u32
     v as u32
 }
 
+// The motor with other limits. Written into the match below, each of its two calls would take seven lines.
+fn with_limits(m: Motor, cw: u32, ccw: u32) -> Motor
+    ensures { result ≡ with_limits m (record { cw = cw; ccw = ccw }) }
+{
+    Motor {
+        limits: Limits { cw, ccw },
+        ..m
+    }
+}
+
 // The motor after an accepted setting. SETLS leaves the contacts, known or not.
 #[tactic(auto, unfolding(crate::specs::Settings::with_setting))]
 pub fn with_setting(m: Motor, s: Setting) -> Motor
@@ -90,20 +101,8 @@ pub fn with_setting(m: Motor, s: Setting) -> Motor
 {
     match s {
         Setting::Preset(w) => m.with_place(place_written(w)),
-        Setting::SetCwLimit(w) => Motor {
-            limits: Limits {
-                cw: place_written(w),
-                ..m.limits
-            },
-            ..m
-        },
-        Setting::SetCcwLimit(w) => Motor {
-            limits: Limits {
-                ccw: place_written(w),
-                ..m.limits
-            },
-            ..m
-        },
+        Setting::SetCwLimit(w) => with_limits(m, place_written(w), m.limits.ccw),
+        Setting::SetCcwLimit(w) => with_limits(m, m.limits.cw, place_written(w)),
         Setting::Select(k) => Motor {
             speeds: Speeds {
                 selected: k,
