@@ -1,4 +1,4 @@
--- The numbers of the verdicts: how large they are, that only `Done` has 0, and that none has 4. Assumes nothing.
+-- The numbers of the verdicts: how large they are, that only a call that is done has 0, and that none has 4. Assumes nothing.
 use Rattle.std.specs.Prelude.{Ok, Err}
 use mathlib.Core.Path.{◌≡◌, refl}
 use Prim.Native.Nat.{ℕ, ◌≤◌}
@@ -7,7 +7,7 @@ use Rattle.drive.specs.Numbers.{Verdict}
 use Rattle.drive.specs.declared.Refusal.TheVariants.{NoForm, Busy, OutOfRange, WrongSize, NotSound, LocalMode, Disabled, Unread, SwitchAhead, AtLimit, AtRangeEnd, NotDriving, Full}
 use Rattle.drive.specs.Numbers.{number_of}
 
--- what is known of a verdict's number: it is a byte, 0 is that of `Done` alone, and 02 §5: "4 is no longer given"
+-- what is known of a verdict's number: it is a byte, 0 is that of a call that is done alone, and 02 §5: "4 is no longer given"
 pub record Numbered (v : Verdict) (n : ℕ) : Type 0 where
   pub small : n ≤ 255
   pub done : n ≡ 0 → v ≡ (Ok tt)
