@@ -45,7 +45,8 @@ fn channel_at(s: &[u8], at: usize) -> Read<u8>
     }
 }
 
-// d: 1 to 10 digits, with the sign that stood before them.
+// d: 1 to 10 digits, with the sign that stood before them. As a call by itself it would cost every command 48 bytes of stack.
+#[inline(always)]
 fn number_from(s: &[u8], at: usize, minus: bool) -> Read<Written>
     ensures { (f : Fields) → with_number f result ≡ read_number minus f s.now at }
 {
