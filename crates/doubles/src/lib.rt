@@ -8,7 +8,7 @@ ghost use Rattle.std.specs.Float.{binary64};
 ghost use Rattle.std.specs.Float.Ieee.{of_bits};
 ghost use Rattle.doubles.specs.Measures.{measure_of, fraction};
 
-use std::num::{f64_from_bits_with_nan, f64_to_bits_with_nan};
+use std::num::f64_from_bits_with_nan;
 
 const SIGN: u64 = 0x8000_0000_0000_0000;
 // The weight of the exponent's field, which is also that of the digit before the 52.
@@ -67,5 +67,8 @@ fn measure_bits(bits: u64) -> Option<Whole>
 pub fn measure_of(x: f64) -> Option<Whole>
     ensures { result ≡ measure_of x }
 {
-    measure_bits(f64_to_bits_with_nan(x))
+    if x.is_nan() {
+        return None;
+    }
+    measure_bits(x.to_bits())
 }

@@ -30,7 +30,8 @@ fn dwell_of(x: f64, at: usize) -> Result<Opening, Fault>
     Ok(Opening::Dwelling(x, n))
 }
 
-// The first field of a step.
+// The first field of a step. As a call by itself it would cost each dwell some fifty instructions more.
+#[inline(always)]
 fn opening_at(field: Field) -> Result<Opening, Fault>
     ensures { result ≡ opening_at field.entry.list.now field.entry.at }
 {
