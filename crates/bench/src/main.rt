@@ -40,7 +40,9 @@ impl<R: Read, W: Write> Bench<R, W> {
     fn read_some(&mut self) -> io::Result<usize> {
         let mut input = [0; 65536];
         let n = self.from.read(&mut input)?;
-        self.print_bytes(&input[..n])?;
+        if n > 0 {
+            self.print_bytes(&input[..n])?;
+        }
         Ok(n)
     }
 
