@@ -192,6 +192,15 @@ unfolding computing_form case_by case_at
 no_case false s at = refl
 no_case true s at = refl
 
+-- Without letters there is no order, whatever the place.
+pub no_order : (s : List ℕ) (at : ℕ) (w : Word) → w.letters ≡ 0 → order_at s at w ≡ None
+unfolding order_at
+no_order s at w e = rw (e, no_case false s at, no_case true s at) (either (leb (length s) 80))
+  where
+    either : (t : Bool) → ◌≡◌ {A = Option Order} (cond t None None) None
+    either true = refl
+    either false = refl
+
 -- Where no word stands there is no order.
 none_answer : (s : List ℕ) → first_form (below 0 forms) s ≡ answer s []
 unfolding computing_form case_by case_at

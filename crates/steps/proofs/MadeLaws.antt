@@ -9,7 +9,7 @@ use native.Mathlib.Omega.{arith}
 use lib.Dec.{leb, eqb}
 use lib.Ieee.{Float}
 use borrow.Author.Tests.{leb-true}
-use Rattle.std.specs.Prelude.{Option, None, Some, Result, Ok, Err, IfOk, MatchResult}
+use Rattle.std.specs.Prelude.{Option, None, Some, Result, Ok, Err, MatchResult}
 use Rattle.digits.specs.Places.{origin, cw, ccw, moved}
 use Rattle.doubles.specs.Doubles.{is_whole, size_of, is_minus}
 use Rattle.steps.specs.declared.SetPoint.{SetPoint}
@@ -56,21 +56,25 @@ Made at (Err f) = Faulted at f
 
 -- ---- judging
 
--- what is taken is whole and in range
+-- what a double is refused by: "24 not finite or not whole, 25 out of range"
+abbrev pub Unfit : Cause → Type 0
+Unfit k = (24 ≤ number_of k) × (number_of k ≤ 25)
+
+-- what is taken is whole and in range, and what is not has 24 or 25
 abbrev pub Fit : Float → Bool → ℕ → Result ℕ Cause → Type 0
-Fit x fits n j = IfOk j (λ k. (is_whole x ≡ true) × (fits ≡ true) × (k ≡ n))
+Fit x fits n j = MatchResult j (λ k. (is_whole x ≡ true) × (fits ≡ true) × (k ≡ n)) Unfit
 
 pub fit : (x : Float) (fits : Bool) (n : ℕ) → Fit x fits n (judged_as x fits n)
 fit x fits n = go (is_whole x) refl fits refl
   where
     go : (t : Bool) → is_whole x ≡ t → (u : Bool) → fits ≡ u → Fit x fits n (cond t (cond u (Ok n) (Err OutOfRange)) (Err NotWhole))
     go true e true f = (e, f, refl)
-    go true e false f = tt
-    go false e u f = tt
+    go true e false f = (omega arith, omega arith)
+    go false e u f = (omega arith, omega arith)
 
 -- a position's place
 abbrev pub Placed : Result ℕ Cause → Type 0
-Placed j = IfOk j (λ p. (1 ≤ p) × (p ≤ 4294967295))
+Placed j = MatchResult j (λ p. (1 ≤ p) × (p ≤ 4294967295)) Unfit
 
 within : (minus : Bool) (n : ℕ) → n ≤ 2147483647 → (1 ≤ moved (cond minus ccw cw) origin n) × (moved (cond minus ccw cw) origin n ≤ 4294967295)
 within true n h = (omega arith, omega arith)
@@ -86,7 +90,7 @@ placed x = go (judged_as x (leb (size_of x) 2147483647) (moved (cond (is_minus x
 
 -- a number from 1 on
 abbrev pub Counted : ℕ → Float → Result ℕ Cause → Type 0
-Counted most x j = IfOk j (λ n. (is_whole x ≡ true) × (is_minus x ≡ false) × (size_of x ≡ n) × (1 ≤ n) × (n ≤ most))
+Counted most x j = MatchResult j (λ n. (is_whole x ≡ true) × (is_minus x ≡ false) × (size_of x ≡ n) × (1 ≤ n) × (n ≤ most)) Unfit
 
 all_three : (n most : ℕ) (minus : Bool) → (leb 1 n && not minus && leb n most) ≡ true → (minus ≡ false) × (1 ≤ n) × (n ≤ most)
 all_three n most minus e = go (leb 1 n) refl minus (leb n most) refl e
@@ -147,7 +151,7 @@ module _ (Q : Fault → Type 0) where
   one_by_one P R (Ok x) next h k = k x h
   one_by_one P R (Err f) next h k = h
 
-  judged : (P : ℕ → Type 0) (at : ℕ) (j : Result ℕ Cause) → ((k : Cause) → Q (fault_at k at)) → IfOk j P → MatchResult (judged_at at j) P Q
+  judged : (P : ℕ → Type 0) (at : ℕ) (j : Result ℕ Cause) → ((k : Cause) → Q (fault_at k at)) → MatchResult j P Unfit → MatchResult (judged_at at j) P Q
   judged P at (Ok n) q h = h
   judged P at (Err k) q h = q k
 

@@ -15,7 +15,7 @@ use Rattle.digits.specs.Bytes.{AllBytes, part, put}
 use Rattle.digits.specs.Words.{word_bytes, is_set}
 use Rattle.digits.proofs.PutLaws.{put_length, put_whole}
 use Rattle.record.specs.declared.Motor.{Motor}
-use Rattle.motor.specs.Sound.{busy, moving}
+use Rattle.motor.specs.Sound.{busy, moving, sound_record}
 use Rattle.motor.proofs.MovingLaws.{idle_still}
 use Rattle.pulses.specs.Ticks.{tick_motor, tick_count}
 use Rattle.pulses.proofs.Laws.{stopped_given_none, stopped_count}
@@ -96,28 +96,43 @@ counted_length t c h =
     put_length no_counts 0 (counts_to c t) (omega arith) ∙ none_length
 
 -- Where no channel from c on is busy, the tick is done with c.
-module _ (t : List ℕ) (s : sound_table t ≡ true) (bytes : AllBytes t) where
+module _ (t : List ℕ) (s : sound_table t ≡ true) where
   whole : length t ≡ table_size
   whole = sound_length t s
 
-  rest_next : (c : ℕ) → c ≤ 15 → busy (motor_at t c) ≡ false → up_to ticked (c + 1) t ≡ up_to ticked c t
-  rest_next c h still =
+  -- the record of a channel that the tick has not come to is that of its motor
+  abbrev Back : List ℕ → ℕ → Type 0
+  Back u c = record_of (motor_at u c) ≡ record_at u c
+
+  rest_next : (c : ℕ) → c ≤ 15 → Back (up_to ticked c t) c → busy (motor_at t c) ≡ false → up_to ticked (c + 1) t ≡ up_to ticked c t
+  rest_next c h back still =
       let l : c ≤ 16 = omega arith in
-      let same = up_to_motor ticked c t whole l in
-      let back : record_of (motor_at (up_to ticked c t) c) ≡ record_at (up_to ticked c t) c =
-      rw (same, up_to_record ticked c t whole l) (read_back t c (sound_record_at t c s h) bytes) in
       sym (up_to_next ticked c t whole h)
-      ∙ idle_table (up_to ticked c t) c (up_to_length ticked c t whole l) h (up_to_sealed ticked c t whole l) back (rw same (idle_still (motor_at t c) still))
+      ∙ idle_table (up_to ticked c t) c (up_to_length ticked c t whole l) h (up_to_sealed ticked c t whole l) back (rw (up_to_motor ticked c t whole l) (idle_still (motor_at t c) still))
 
   rest_count : (c : ℕ) → c ≤ 15 → busy (motor_at t c) ≡ false → put no_counts 0 (counts_to (c + 1) t) ≡ put no_counts 0 (counts_to c t)
   rest_count c h still =
       sym (counts_next c t no_counts h none_length)
       ∙ idle_count (put no_counts 0 (counts_to c t)) c (motor_at t c) (counted_length t c (omega arith)) h (zero_count t c h) (idle_still (motor_at t c) still)
 
-  pub rest_table : (k c : ℕ) → c + k ≡ 16 → ((d : ℕ) → c ≤ d → d ≤ 15 → busy (motor_at t d) ≡ false) → up_to ticked c t ≡ up_to ticked 16 t
-  rest_table zero c e still = let same : c ≡ 16 = omega arith in rw same
-  rest_table (suc k) c e still =
-      sym (rest_next c (omega arith) (still c (omega arith) (omega arith))) ∙ rest_table k (c + 1) (omega arith) (λ d l h. still d (omega arith) h)
+  pub rest_table : (bytes : AllBytes t) (k c : ℕ) → c + k ≡ 16 → ((d : ℕ) → c ≤ d → d ≤ 15 → busy (motor_at t d) ≡ false) → up_to ticked c t ≡ up_to ticked 16 t
+  rest_table bytes zero c e still = let same : c ≡ 16 = omega arith in rw same
+  rest_table bytes (suc k) c e still =
+      let h : c ≤ 15 = omega arith in
+      let l : c ≤ 16 = omega arith in
+      let back : Back (up_to ticked c t) c = rw (up_to_motor ticked c t whole l, up_to_record ticked c t whole l) (read_back t c (sound_record_at t c s h) bytes) in
+      sym (rest_next c h back (still c (omega arith) h)) ∙ rest_table bytes k (c + 1) (omega arith) (λ d l h. still d (omega arith) h)
+
+  -- The same where the bytes of the table as far as the tick has come are known, and not those that it began with.
+  pub rest_table_so_far : (k c : ℕ) → c + k ≡ 16 → ((d : ℕ) → c ≤ d → d ≤ 15 → busy (motor_at t d) ≡ false) → AllBytes (up_to ticked c t)
+      → up_to ticked c t ≡ up_to ticked 16 t
+  rest_table_so_far zero c e still bytes = let same : c ≡ 16 = omega arith in rw same
+  rest_table_so_far (suc k) c e still bytes =
+      let h : c ≤ 15 = omega arith in
+      let l : c ≤ 16 = omega arith in
+      let sound : sound_record (record_at (up_to ticked c t) c) ≡ true = rw (up_to_record ticked c t whole l) (sound_record_at t c s h) in
+      let next = rest_next c h (read_back (up_to ticked c t) c sound bytes) (still c (omega arith) h) in
+      sym next ∙ rest_table_so_far k (c + 1) (omega arith) (λ d l h. still d (omega arith) h) (rw next bytes)
 
   pub rest_counts : (k c : ℕ) → c + k ≡ 16 → ((d : ℕ) → c ≤ d → d ≤ 15 → busy (motor_at t d) ≡ false)
       → put no_counts 0 (counts_to c t) ≡ put no_counts 0 (counts_to 16 t)

@@ -62,5 +62,5 @@ returns c =
     let still : (d : ℕ) → k ≤ d → d ≤ 15 → busy (motor_at t₀ d) ≡ false = λ d h b. sym (sound_set_at t₀ d s b) ∙ none_left (head_of t₀).busy k d none h in
     record {
       t_after = c.loop-left.invariant.1 ∙ rest_table t₀ s c.fits-t (16 - k) k up still ∙ up_to_all ticked t₀ c.told-t;
-      pulses_after = c.loop-left.invariant.2 ∙ rest_counts t₀ s c.fits-t (16 - k) k up still ∙ counts_all t₀ no_counts none_length;
+      pulses_after = c.loop-left.invariant.2 ∙ rest_counts t₀ s (16 - k) k up still ∙ counts_all t₀ no_counts none_length;
     }
