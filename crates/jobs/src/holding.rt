@@ -9,7 +9,7 @@ use std::marker::Model;
 const HELD: usize = 96;
 
 // The bytes that are held, at the front of a buffer: what stands behind them is no part of the value.
-#[derive(Drop)]
+#[derive(Clone, Drop)]
 pub struct Line {
     bytes: [u8; HELD],
     held: usize,

@@ -6,6 +6,8 @@
 pub mod cards;
 pub mod field_reading;
 
+pub use field_reading::Got;
+
 // A number as it was written: its sign, and the value of its 1 to 10 digits.
 #[derive(Clone, Copy)]
 pub struct Written {
