@@ -118,13 +118,12 @@ mutants 0 --list text 60 6
 mutants 0 --list text
 [ "$(grep -c '^crates/' "$room/out")" = 10 ] && grep -q 'text: 10 changes .*, seed [0-9]*$' "$room/err" || fail "without a number it says: $(cat "$room/err")"
 
-# All changes that there are: no two alike, each of one token of a line that is no comment and no import, of the crate's own files.
-mutants 0 --list text 999999 1
-grep -q '^mutants: there are no 999999$' "$room/err" || fail "with too large a number it says: $(cat "$room/err")"
+# All changes that there are: no two alike, each of one token of a line that is no comment and no import, of the crate's own files. There
+# are as many kinds as the crate's sources have words for.
 cat >"$room/look.py" <<'END'
 import os, re, sys
-listed, tree = sys.argv[1:]
-blocks = re.findall(r'^(crates/text/(?:src|specs)/[\w/]+\.(?:rt|antt)):(\d+) \((.+)\)\n  before: (.*)\n  after:  (.*)\n',
+listed, tree, crate, fewest = sys.argv[1:]
+blocks = re.findall(r'^(crates/%s/(?:src|specs)/[\w/]+\.(?:rt|antt)):(\d+) \((.+)\)\n  before: (.*)\n  after:  (.*)\n' % crate,
                     open(listed, encoding='utf-8').read(), re.MULTILINE)
 assert sum(1 for _ in open(listed, encoding='utf-8')) == 3 * len(blocks) > 600, 'lines that are no changes'
 kinds = set()
@@ -139,10 +138,16 @@ for path, line, kind, before, after in blocks:
     assert not re.search(r'--|//', before[:head]) and not re.match(r'(pub |ghost )*(use|mod) ', before), where
     assert not re.match(r'(abbrev |unfoldable |pub )*\S+ : .*→', before), where
     assert 'Computing' not in path, where
-assert len(kinds) > 7, 'few kinds: %s' % kinds
+assert len(kinds) >= int(fewest), 'few kinds: %s' % kinds
 END
-python3 "$room/look.py" "$room/out" "$tree" 2>"$room/err" || fail "of all changes: $(tail -n 1 "$room/err")"
-[ ! -s "$calls" ] || fail "to list changes it calls rt: $(cat "$calls")"
+look_at_all() { # CRATE KINDS
+    mutants 0 --list "$1" 999999 1
+    grep -q '^mutants: there are no 999999$' "$room/err" || fail "with too large a number it says: $(cat "$room/err")"
+    python3 "$room/look.py" "$room/out" "$tree" "$1" "$2" 2>"$room/err" || fail "of all changes of $1: $(tail -n 1 "$room/err")"
+    [ ! -s "$calls" ] || fail "to list changes it calls rt: $(cat "$calls")"
+}
+look_at_all text 8
+look_at_all jobs 10
 
 # What came of seven changes is counted by what the prover says. Each was put by itself into a copy that was whole before.
 must_count() { # OUTCOME COUNTS WORDS..
