@@ -147,7 +147,10 @@ look_at_all() { # CRATE KINDS
     [ ! -s "$calls" ] || fail "to list changes it calls rt: $(cat "$calls")"
 }
 look_at_all text 8
+cp "$tree/crates.txt" "$room/crates.txt"
+printf 'line: digits text\njobs: digits text line\n' >>"$tree/crates.txt"
 look_at_all jobs 10
+cp "$room/crates.txt" "$tree/crates.txt"
 
 # What came of seven changes is counted by what the prover says. Each was put by itself into a copy that was whole before.
 must_count() { # OUTCOME COUNTS WORDS..
