@@ -147,10 +147,16 @@ look_at_all() { # CRATE KINDS
     [ ! -s "$calls" ] || fail "to list changes it calls rt: $(cat "$calls")"
 }
 look_at_all text 8
+# jobs has kinds that text has not; it and what it uses stay no longer than this takes
+for crate in line jobs; do
+    mkdir "$tree/crates/$crate"
+    cp -R "$root/crates/$crate/src" "$root/crates/$crate/specs" "$tree/crates/$crate" || exit 2
+done
 cp "$tree/crates.txt" "$room/crates.txt"
 printf 'line: digits text\njobs: digits text line\n' >>"$tree/crates.txt"
 look_at_all jobs 10
 cp "$room/crates.txt" "$tree/crates.txt"
+rm -r "$tree/crates/line" "$tree/crates/jobs"
 
 # What came of seven changes is counted by what the prover says. Each was put by itself into a copy that was whole before.
 must_count() { # OUTCOME COUNTS WORDS..
