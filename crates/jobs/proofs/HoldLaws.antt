@@ -1,5 +1,5 @@
 -- One byte more of a line that is held at the front of a buffer. Assumes nothing.
-use Prim.Native.Nat.{ℕ, ◌+◌, ◌≤◌, ◌<◌}
+use Prim.Native.Nat.{ℕ, ◌+◌, ◌-◌, ◌≤◌, ◌<◌}
 use mathlib.Core.Path.{◌≡◌, refl, sym}
 use mathlib.Core.List.{List, [], ◌∷◌, ◌++◌, append_assoc}
 use mathlib.Core.Bool.{Bool, true, false, cond}
@@ -7,8 +7,9 @@ use native.Mathlib.Omega.{arith}
 use native.Mathlib.Nat.{zero-add}
 use native.Mathlib.Numerals.{add-one}
 use lib.Dec.{ltb}
-use lib.ListN.{length, take, drop, set, length-append, take-append-drop}
+use lib.ListN.{length, take, drop, set, replicate, length-append, take-append-drop}
 use lib.Seq.{length-take-le, take_at, set_split}
+use Rattle.std.proofs.lemmas.List.{drop-drop, drop-replicate, drop-set-lt}
 use borrow.Author.Tests.{lt-ltb, le-ltb, ltb-true}
 use Rattle.digits.specs.Bytes.{put}
 use Rattle.text.specs.Text.{Wrote}
@@ -27,6 +28,12 @@ unfolding kept put
 kept_left s n b e h full =
     let l : length (take n s) ≡ n = length-take-le n s (omega arith) in
     rw (l, le-ltb n 96 full) (record { count = sym l; buffer = rw (l, zero-add) (sym (take-append-drop n s)) })
+
+-- Behind the byte that is stored there are zeros still.
+pub zeros_left : (s : List ℕ) (n b : ℕ) → n < held_size → drop n s ≡ replicate (held_size - n) 0 → drop (n + 1) (set s n b) ≡ replicate (held_size - (n + 1)) 0
+zeros_left s n b h z =
+    let k : held_size - n - 1 ≡ held_size - (n + 1) = omega arith in
+    rw (drop-set-lt (n + 1) s n b (omega arith), ← drop-drop 1 n s, z, drop-replicate {X = ℕ} 1 (held_size - n) 0, k)
 
 -- What is held of at most as many bytes has no more with one byte more, and stands at the front of a buffer that it is written into.
 pub kept_few : (held : List ℕ) (b : ℕ) → length held ≤ held_size → length (kept held b) ≤ held_size

@@ -8,22 +8,27 @@ use std::marker::Model;
 // How many bytes of a line are held.
 const HELD: usize = 96;
 
-// The bytes that are held, at the front of a buffer: what stands behind them is no part of the value.
-#[derive(Clone, Drop)]
+// The bytes that are held, at the front of a buffer, and zeros behind them: a value has no more to it than what is held.
+#[derive(Clone, Copy)]
 pub struct Line {
     bytes: [u8; HELD],
     held: usize,
 }
 
 impl Model for Line {
-    ghost use Rattle.std.specs.Prelude.{ℕ, ◌≤◌, List, take};
+    ghost use Rattle.std.specs.Prelude.{ℕ, ◌≡◌, ◌-◌, ◌≤◌, ◌++◌, List, take, drop, length, replicate};
     ghost use Rattle.jobs.specs.Holding.{held_size};
+    ghost use Rattle.std.proofs.Common.{arith, refl, take-append-drop, length-take-le};
 
     ghost Value = { List ℕ };
 
     ghost view = { λ l. take l.held l.bytes };
 
-    ghost invariant = { λ l. l.held ≤ held_size };
+    ghost invariant = { λ l. (l.held ≤ held_size) × (length l.bytes ≡ held_size) × (drop l.held l.bytes ≡ replicate (held_size - l.held) 0) };
+
+    ghost inverse = { λ v. record { bytes = v ++ replicate (held_size - length v) 0; held = length v } };
+
+    ghost inverse_ok = { λ l h. rw (length-take-le l.held l.bytes (omega (arith, h.0, h.1)), ← h.2, take-append-drop l.held l.bytes) refl };
 }
 
 impl Line {
@@ -58,6 +63,7 @@ impl Line {
     pub fn clear(&mut self)
         ensures { self.new ≡ [] }
     {
+        self.bytes = [0; HELD];
         self.held = 0;
     }
 }

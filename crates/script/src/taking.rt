@@ -10,7 +10,7 @@ use jobs::texts::ROOM;
 use running::run_line;
 
 // How far a script is read: whether the line in hand is the first one, and what is held of it.
-#[derive(Clone, Drop)]
+#[derive(Clone, Copy)]
 pub struct Reading {
     pub first: bool,
     pub line: Line,
