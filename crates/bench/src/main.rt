@@ -40,6 +40,7 @@ impl<R: Read, W: Write> Bench<R, W> {
     fn read_some(&mut self) -> io::Result<usize> {
         let mut input = [0; 65536];
         let n = self.from.read(&mut input)?;
+        // its buffer is made ready for each call, and the end of the input needs none
         if n > 0 {
             self.print_bytes(&input[..n])?;
         }

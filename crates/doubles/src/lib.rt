@@ -63,7 +63,8 @@ fn measure_bits(bits: u64) -> Option<Whole>
     }
 }
 
-// What a double is as a whole number; none where it has a fraction, is infinite or is no number.
+// What a double is as a whole number; none where it has a fraction, is infinite or is no number. A NaN is told first, since its
+// bits can't be read.
 pub fn measure_of(x: f64) -> Option<Whole>
     ensures { result ≡ measure_of x }
 {

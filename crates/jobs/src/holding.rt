@@ -8,7 +8,8 @@ use std::marker::Model;
 // How many bytes of a line are held.
 const HELD: usize = 96;
 
-// The bytes that are held, at the front of a buffer, and zeros behind them: a value has no more to it than what is held.
+// The bytes that are held, at the front of a buffer, and zeros behind them: a value has no more to it than what is held, so that it can be
+// copied.
 #[derive(Clone, Copy)]
 pub struct Line {
     bytes: [u8; HELD],

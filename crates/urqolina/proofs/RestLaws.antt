@@ -115,24 +115,34 @@ module _ (t : List ℕ) (s : sound_table t ≡ true) where
       sym (counts_next c t no_counts h none_length)
       ∙ idle_count (put no_counts 0 (counts_to c t)) c (motor_at t c) (counted_length t c (omega arith)) h (zero_count t c h) (idle_still (motor_at t c) still)
 
-  pub rest_table : (bytes : AllBytes t) (k c : ℕ) → c + k ≡ 16 → ((d : ℕ) → c ≤ d → d ≤ 15 → busy (motor_at t d) ≡ false) → up_to ticked c t ≡ up_to ticked 16 t
-  rest_table bytes zero c e still = let same : c ≡ 16 = omega arith in rw same
-  rest_table bytes (suc k) c e still =
+  -- by what is known of the table at each channel that the tick comes to, which a channel that does not move leaves
+  rest_by : (P : ℕ → Type 0) → ((d : ℕ) → d ≤ 15 → P d → Back (up_to ticked d t) d)
+      → ((d : ℕ) → up_to ticked (d + 1) t ≡ up_to ticked d t → P d → P (d + 1))
+      → (k c : ℕ) → c + k ≡ 16 → ((d : ℕ) → c ≤ d → d ≤ 15 → busy (motor_at t d) ≡ false) → P c → up_to ticked c t ≡ up_to ticked 16 t
+  rest_by P back on zero c e still p = let same : c ≡ 16 = omega arith in rw same
+  rest_by P back on (suc k) c e still p =
       let h : c ≤ 15 = omega arith in
-      let l : c ≤ 16 = omega arith in
-      let back : Back (up_to ticked c t) c = rw (up_to_motor ticked c t whole l, up_to_record ticked c t whole l) (read_back t c (sound_record_at t c s h) bytes) in
-      sym (rest_next c h back (still c (omega arith) h)) ∙ rest_table bytes k (c + 1) (omega arith) (λ d l h. still d (omega arith) h)
+      let next = rest_next c h (back c h p) (still c (omega arith) h) in
+      sym next ∙ rest_by P back on k (c + 1) (omega arith) (λ d l h. still d (omega arith) h) (on c next p)
+
+  pub rest_table : (bytes : AllBytes t) (k c : ℕ) → c + k ≡ 16 → ((d : ℕ) → c ≤ d → d ≤ 15 → busy (motor_at t d) ≡ false)
+      → up_to ticked c t ≡ up_to ticked 16 t
+  rest_table bytes k c e still = rest_by (λ d. AllBytes t) back (λ d e p. p) k c e still bytes
+    where
+      back : (d : ℕ) → d ≤ 15 → AllBytes t → Back (up_to ticked d t) d
+      back d h p =
+          let l : d ≤ 16 = omega arith in
+          rw (up_to_motor ticked d t whole l, up_to_record ticked d t whole l) (read_back t d (sound_record_at t d s h) p)
 
   -- The same where the bytes of the table as far as the tick has come are known, and not those that it began with.
   pub rest_table_so_far : (k c : ℕ) → c + k ≡ 16 → ((d : ℕ) → c ≤ d → d ≤ 15 → busy (motor_at t d) ≡ false) → AllBytes (up_to ticked c t)
       → up_to ticked c t ≡ up_to ticked 16 t
-  rest_table_so_far zero c e still bytes = let same : c ≡ 16 = omega arith in rw same
-  rest_table_so_far (suc k) c e still bytes =
-      let h : c ≤ 15 = omega arith in
-      let l : c ≤ 16 = omega arith in
-      let sound : sound_record (record_at (up_to ticked c t) c) ≡ true = rw (up_to_record ticked c t whole l) (sound_record_at t c s h) in
-      let next = rest_next c h (read_back (up_to ticked c t) c sound bytes) (still c (omega arith) h) in
-      sym next ∙ rest_table_so_far k (c + 1) (omega arith) (λ d l h. still d (omega arith) h) (rw next bytes)
+  rest_table_so_far = rest_by (λ d. AllBytes (up_to ticked d t)) back (λ d e p. rw e p)
+    where
+      back : (d : ℕ) → d ≤ 15 → AllBytes (up_to ticked d t) → Back (up_to ticked d t) d
+      back d h p =
+          let l : d ≤ 16 = omega arith in
+          read_back (up_to ticked d t) d (rw (up_to_record ticked d t whole l) (sound_record_at t d s h)) p
 
   pub rest_counts : (k c : ℕ) → c + k ≡ 16 → ((d : ℕ) → c ≤ d → d ≤ 15 → busy (motor_at t d) ≡ false)
       → put no_counts 0 (counts_to c t) ≡ put no_counts 0 (counts_to 16 t)
